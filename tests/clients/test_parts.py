@@ -15,7 +15,7 @@ from legacy import plans
 from legacy.check import Check, check
 from legacy.mend import Repairs
 from legacy.search import Search, search
-from legacy.work import cuts, reading
+from legacy.work import cuts, parts, reading
 from legacy.work import run as run_job
 from legacy.work.rows import WORKER, Task
 
@@ -76,12 +76,12 @@ class Parts(Folder):
                 path = self.file(f"{draw}.{label}", content_of(rng, label, rng.choice([600, 2000, 4000]), longest))
                 whole = [keep(it) for it in ran(path)]
                 with in_parts(rng.choice([200, 301, 500])):
-                    parts = [keep(it) for it in ran(path)]
-                if whole[0].outcome == "refused" or "cut" in parts[0].reason:
+                    split = [keep(it) for it in ran(path)]
+                if whole[0].outcome == "refused" or "cut" in split[0].reason:
                     refused += 1
                     continue
                 with self.subTest(label=label, draw=draw, longest=longest):
-                    self.assertEqual(parts, whole)
+                    self.assertEqual(split, whole)
         self.assertLess(refused, len(ENCODINGS) * draws // 3 + 1)
 
     def test_check(self):
@@ -149,7 +149,7 @@ class Parts(Folder):
         path = self.file("a.euc-jp", b"\xa4\xa2" * 3000)
         with in_parts(200):
             rows = list(check([path], settings()))
-        self.assertEqual([it.reason for it in rows], [f"{cuts.MOST} bytes of it have no line end, and nothing else at which they can be cut"])
+        self.assertEqual([it.reason for it in rows], [f"{parts.MOST} bytes of it have no line end, and nothing else at which they can be cut"])
 
     def test_a_file_that_changes(self):
         path = self.file("a.shift_jis", b"ab\n")
@@ -161,30 +161,41 @@ class Parts(Folder):
             self.assertEqual([it.reason for it in rows], [reason])
 
 
+# Runs the command, and prints on standard error the most KiB that it, or one of its processes, had.
+MEASURED = """import resource, sys
+from legacy.__main__ import main
+status = main(sys.argv[1:])
+print(max(resource.getrusage(it).ru_maxrss for it in (resource.RUSAGE_SELF, resource.RUSAGE_CHILDREN)), file=sys.stderr)
+sys.exit(status)"""
+
+
 @BUILT
 @EXACT
 class Large(Folder):
+    def run_measured(self, *words):
+        """A row, and the most KiB that a process had."""
+        ran = subprocess.run(
+            [sys.executable, "-c", MEASURED, *words, "-e", "*.txt=shift_jis", "--gate", PROGRAM, "--indexes", str(INDEXES), str(self.folder / "in")],
+            stdout=subprocess.PIPE, stderr=subprocess.PIPE, env={**os.environ, "PYTHONPATH": str(CLIENTS)})
+        return json.loads(ran.stdout), int(ran.stderr.split()[-1])
+
     def test_forty_megabytes_in_sixty_four_mebibytes(self):
         line = "\u56f3\u66f8\u9928 abc \u8868\n".encode("cp932")
-        content = line * (40_000_000 // len(line))
+        lines = line * (40_000_000 // len(line))
         middle = len(line) * 1_000_000
-        path = self.file("in/a.shift_jis", content[:middle] + b"X\xffY\n" + content[middle:] + b"\x82")
-        words = ["-e", "*.shift_jis=shift_jis", "--gate", PROGRAM, "--indexes", str(INDEXES), "--no-attributes"]
-        code = ("import resource, sys\nfrom legacy.__main__ import main\nstatus = main(sys.argv[1:])\n"
-                "print(status, *(resource.getrusage(it).ru_maxrss for it in (resource.RUSAGE_SELF, resource.RUSAGE_CHILDREN)), file=sys.stderr)")
-        for command, printed in (
-                (["check", "--json"], lambda row: [(it["begin"], it["end"], it["line"], it["character"]) for it in row["places"]] == [
-                    (middle + 1, middle + 2, 1_000_001, 2), (len(content) + 4, len(content) + 5, len(content) // len(line) + 2, 1)]),
-                (["search", "X.Y", "--json"], lambda row: [(it["begin"], it["line"], it["character"]) for it in row["matches"]] == [(middle, 1_000_001, 1)])):
-            for jobs in "1", "3":
-                ran = subprocess.run(
-                    [sys.executable, "-c", code, *command, *words, "--jobs", jobs, str(self.folder / "in")], stdout=subprocess.PIPE, stderr=subprocess.PIPE,
-                    env={**os.environ, "PYTHONPATH": str(CLIENTS)})
-                self.assertTrue(printed(json.loads(ran.stdout)), ran.stdout[:2000])
-                *_, said = ran.stderr.decode().splitlines()
-                status, mine, others = map(int, said.split())
-                self.assertEqual(status, 1 if command[0] == "check" else 0)
-                self.assertLess(max(mine, others), 64 << 10)
+        self.file("in/a.txt", lines[:middle] + b"X\xffY\n" + lines[middle:] + b"\x82")
+        last = lines.count(b"\n") + 2
+        for jobs in "1", "3":
+            row, peak = self.run_measured("check", "--json", "--jobs", jobs)
+            found = [(it["begin"], it["end"], it["line"], it["character"]) for it in row["places"]]
+            self.assertEqual(found, [(middle + 1, middle + 2, 1_000_001, 2), (len(lines) + 4, len(lines) + 5, last, 1)])
+            self.assertLess(peak, 64 << 10)
+            row, peak = self.run_measured("search", "X.Y", "--json", "--jobs", jobs)
+            self.assertEqual([(it["begin"], it["end"], it["line"], it["character"]) for it in row["matches"]], [(middle, middle + 3, 1_000_001, 1)])
+            self.assertLess(peak, 64 << 10)
+            row, peak = self.run_measured("mend", "--plan", str(self.folder / f"plan{jobs}"), "--damage", "ff=3f", "--json", "--jobs", jobs)
+            self.assertEqual([(it["at"], it["line"], it["character"]) for it in row["edits"]], [(middle + 1, 1_000_001, 2)])
+            self.assertLess(peak, 64 << 10)
 
 
 if __name__ == "__main__":

@@ -116,11 +116,12 @@ class Served(Plans):
             status, page, headers = self.ask(server.address)
             self.assertEqual((status, b"<title>legacy review: " in page, headers["Referrer-Policy"]), (200, True, "no-referrer"))
             self.assertIn("default-src 'none'; script-src 'nonce-", headers["Content-Security-Policy"])
-            for path in "/", "/edits", "/x/", "/" + "x" * 32 + "/", urllib.parse.urlsplit(server.address).path + "../", urllib.parse.urlsplit(server.address).path + "plan":
+            top = urllib.parse.urlsplit(server.address).path
+            for path in "/", "/edits", "/x/", "/" + "x" * 32 + "/", top + "../", top + "plan":
                 self.assertEqual(self.ask(server.address, path=path)[0], 404, path)
             # (another page's script would come with the name of its own host, or with another type)
             self.assertEqual(self.ask(server.address, Host="example.org")[0], 404)
-            plan, kind = urllib.parse.urlsplit(server.address).path + "plan", {"Content-Type": "application/json"}
+            plan, kind = top + "plan", {"Content-Type": "application/json"}
             self.assertEqual(self.ask(server.address, "POST", plan, b"[]")[0], 404)
             for content in b"", b"{}", b"[1]", b"[-1]", b"[true]", b"[" * 100_000, b"x":
                 self.assertEqual(self.ask(server.address, "POST", plan, content, **kind)[0], 400, content[:5])

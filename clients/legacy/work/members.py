@@ -6,11 +6,10 @@ import gzip
 import io
 import lzma
 import os
-import re
 import tarfile
 import zipfile
 import zlib
-from typing import IO, Any, Callable, Dict, Iterator, NamedTuple, Optional
+from typing import IO, Any, Callable, Dict, Iterator, List, NamedTuple, Optional
 
 from legacy.work import reading
 from legacy.work.walk import reason
@@ -23,8 +22,6 @@ MAIL, MBOX = ".eml", ".mbox"
 NAMES = (*TARS, ".zip", *STREAMS, MAIL, MBOX)
 # What a module says of an archive that is damaged, or that it can't read, such as one with a password.
 FAULTS = (tarfile.TarError, zipfile.BadZipFile, zlib.error, lzma.LZMAError, EOFError, RuntimeError, NotImplementedError, ValueError)
-# How a message begins in an mbox.
-FROM = re.compile(rb"(?:\A|(?<=\n\n)|(?<=\n\r\n))From [^\n]*\n")
 
 
 class Member(NamedTuple):
@@ -54,7 +51,7 @@ def members(path: str) -> Iterator[Member]:
             elif name.endswith(".zip"):
                 yield from _of_zip(file)
             elif name.endswith((MAIL, MBOX)):
-                yield from _of_mail(file.read(), name.endswith(MBOX))
+                yield from _of_mail(file, name.endswith(MBOX))
             else:
                 inner, end = os.path.splitext(os.path.basename(path))
                 yield _read_member(inner, STREAMS[end.lower()](file))
@@ -85,10 +82,25 @@ def _of_zip(file: IO[bytes]) -> Iterator[Member]:
                     yield _read_member(it.filename, inner)
 
 
-def _of_mail(content: bytes, is_mbox: bool) -> Iterator[Member]:
+def _messages(file: IO[bytes]) -> Iterator[bytes]:
+    """The messages of an mbox, each of which begins behind a line From after an empty line."""
+    begun: List[bytes] = []
+    is_begun, is_behind_empty = False, True
+    for line in file:
+        if is_behind_empty and line.startswith(b"From "):
+            if is_begun:
+                yield b"".join(begun)
+            begun, is_begun = [], True
+        else:
+            begun.append(line)
+        is_behind_empty = not line.strip(b"\r\n")
+    if is_begun:
+        yield b"".join(begun)
+
+
+def _of_mail(file: IO[bytes], is_mbox: bool) -> Iterator[Member]:
     """The texts of each message, by the numbers of the message and of the part."""
-    messages = FROM.split(content)[1:] if is_mbox else [content]
-    for number, message in enumerate(messages, 1):
+    for number, message in enumerate(_messages(file) if is_mbox else [file.read()], 1):
         for part, it in enumerate(email.message_from_bytes(message).walk(), 1):
             if it.get_content_maintype() == "text":
                 payload = it.get_payload(decode=True)
