@@ -52,7 +52,7 @@ def content_of(rng, label, size, longest):
 
 
 @contextlib.contextmanager
-def in_parts(size, beside=64):
+def in_parts(size, beside=400):
     """Looks at files by parts of so many bytes."""
     with mock.patch.object(reading, "WHOLE", 0), mock.patch.object(cuts, "PART", size), mock.patch.object(cuts, "MOST", 4 * size), \
             mock.patch.object(Search, "beside", beside):
@@ -63,6 +63,7 @@ def without_around(row):
     """A row without the texts beside its places, which a part has only if they are in it."""
     for it in [*getattr(row, "places", ()), *getattr(row, "control_places", ()), *getattr(row, "matches", ())]:
         it.before = it.after = ""
+        it.above, it.below = [], []
     return row
 
 
@@ -162,10 +163,12 @@ class Parts(Folder):
 
 
 # Runs the command, and prints on standard error the most KiB that it, or one of its processes, had.
-MEASURED = """import resource, sys
+# (What its own usage says begins with that of the process that started it.)
+MEASURED = """import re, resource, sys
 from legacy.__main__ import main
 status = main(sys.argv[1:])
-print(max(resource.getrusage(it).ru_maxrss for it in (resource.RUSAGE_SELF, resource.RUSAGE_CHILDREN)), file=sys.stderr)
+mine = re.search("VmHWM:\\s*(\\d+)", open("/proc/self/status").read())
+print(max(int(mine[1]), resource.getrusage(resource.RUSAGE_CHILDREN).ru_maxrss), file=sys.stderr)
 sys.exit(status)"""
 
 
@@ -180,7 +183,7 @@ class Large(Folder):
         return json.loads(ran.stdout), int(ran.stderr.split()[-1])
 
     def test_forty_megabytes_in_sixty_four_mebibytes(self):
-        line = "\u56f3\u66f8\u9928 abc \u8868\n".encode("cp932")
+        line = "\u3042\u3042\u3042 abc \u3042\n".encode("cp932")
         lines = line * (40_000_000 // len(line))
         middle = len(line) * 1_000_000
         self.file("in/a.txt", lines[:middle] + b"X\xffY\n" + lines[middle:] + b"\x82")

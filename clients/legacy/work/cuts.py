@@ -149,8 +149,8 @@ def parts(file: Readable, first: bytes, encoding: str, beside: int = 0) -> Itera
         stop = last(inside[size:], 1, beside, behind) if beside else None
         yield (Part(start, begin, begin + size, begin + size + (stop[0] if stop else 0), before),
                content[start - base : here + size + (stop[0] if stop else 0)])
-        again = last(inside, 1, size - beside, head) if 1 < size - beside and beside else None
-        start, before = (begin + again[0], again[1]) if again else (begin + size, behind)
+        again = (last(inside, 1, size - beside, head) if size > beside + 1 else None) or (0, head)
+        start, before = (begin + again[0], again[1]) if beside else (begin + size, behind)
         begin, head = begin + size, behind
         content, base = content[start - base :], start
 
