@@ -12,16 +12,16 @@ from typing import Any, ClassVar, ContextManager, Iterator, List, Optional, Patt
 
 from gate import Document, Gate
 
-from legacy import listing, work
+from legacy import listing, literals, work
 from legacy.ascii import plain
 from legacy.check import ENCODINGS
 from legacy.damage import Range, across
-from legacy.ends import LINE_END, LinesAt, in_lines, lines_in, within, without
+from legacy.ends import LINE_END, LinesAt, ends_of, in_lines, lines_in, within, without
 from legacy.finding import Missing
 from legacy.folding import Folded, folded_expression
 from legacy.terminals import quote_path, visible_text
 from legacy.work import DONE, FOUND, REFUSED, Before, Item, PartRow, Row, Settings
-from legacy.work.joints import move_bytes, move_line
+from legacy.work.joints import move_bytes, move_line, tail_of
 
 ABOUT = ("Search the text of the files of these trees for a regular expression, as Python's module re has them; ^ and $ are those of a line,"
          " whatever ends it, and empty matches are left out. The status is 0 where something was found, 1 where nothing was, 2 where something"
@@ -112,6 +112,8 @@ class Search(work.Job):
 
     def _row(self, gate: Gate, item: Item, content: bytes) -> Searched:
         made = Searched(item.path, len(content), item.label, encoding=ENCODINGS.of(gate, item.label))
+        if self._is_without(gate, made.encoding, content):
+            return made
         if plain(content, made.encoding) and not self._places(self.pattern(), content.decode("ascii")):
             return made
         with gate.open("searched", item.label, content) as document:
@@ -130,7 +132,11 @@ class Search(work.Job):
     def _part_row(self, gate: Gate, item: Item, content: bytes) -> PartRow:
         part = item.part
         assert part
-        made = Searched(item.path, item.size, item.label)
+        made = Searched(item.path, item.size, item.label, encoding=ENCODINGS.of(gate, item.label))
+        if self._is_without(gate, made.encoding, content):
+            own = content[part.begin - part.start : part.end - part.start]
+            tail = 0 if part.is_last else tail_of(gate, made.encoding, own)
+            return PartRow(item.path, item.size, item.label, made=made, lines=ends_of(own).count, tail=tail)
         with gate.open("searched", item.label, content, "sniff" if part.is_first else "keep") as document:
             made.encoding, length = document.encoding, document.stat()["utf32"]
             text = document.text(end=length)
@@ -161,6 +167,12 @@ class Search(work.Job):
         """Says whether a file has matches."""
         assert isinstance(whole, Searched)
         whole.outcome = FOUND if whole.matches else DONE
+
+    def _is_without(self, gate: Gate, encoding: str, content: bytes) -> bool:
+        """Whether the bytes say that there is no match, since the expression is a text that isn't there."""
+        is_other = self.ignore_case or self.folds or self.is_inverted or self.through_damage
+        is_literal = not is_other and literals.is_literal(self.expression, self.is_text)
+        return is_literal and not literals.LITERALS.may_be_in(gate, encoding, self.expression, content)
 
     def _found(self, gate: Gate, label: str, document: Document, text: str) -> Tuple[List[Range], Set[Range]]:
         """Where matches begin and end in the text of a document, and which of them were found across damage."""

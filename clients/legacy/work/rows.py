@@ -101,7 +101,7 @@ class Job:
         return None
 
     def stream_row(self, found: Found, item: Item) -> Optional[Row]:
-        """The row of a file that is too large for a document, if the job does without one. Raises `Refusal` if it can't."""
+        """The row of a long file, if the job does without a document of it. Raises `Refusal` if it can't."""
         return None
 
     def sync(self, rows: Sequence[Row]) -> None:
@@ -149,7 +149,8 @@ class Task(NamedTuple):
             return made
         try:
             with refusals(item.label):
-                row = self.job.stream_row(self.found, item) if item.content is None and item.size > reading.LARGEST else None
+                is_long = item.content is None and item.size > min(reading.WHOLE, reading.LARGEST)
+                row = self.job.stream_row(self.found, item) if is_long else None
                 if row:
                     return row
                 content = read(item)
