@@ -1,10 +1,10 @@
 #!/usr/bin/env python3
-"""Measures the processor time of `legacy` beside iconv, ripgrep, Python's codecs and git, in one run, and prints a table.
+"""Measures the processor time of `legacy`, iconv, ripgrep, Python's codecs and git, in one run, and prints a table.
 
     bench/archives/speed.py [--megabytes N] [--small N] [--names N] [--files N] [--rounds N] [--only NAME ..] TOP
 
-makes three trees in TOP, where they are missing: files of 64 KiB to 1 MiB in four encodings, small files of 200 to 2,000 bytes, and
-empty files with rules by their exact names. `gate` and the index files are those that the command `legacy` finds. A program that
+makes three trees in TOP, if they are missing. One has files of 64 KiB to 1 MiB in four encodings, one has files of 200 to 2,000
+bytes. One has empty files with rules by their exact names. `gate` and the index files are those that the command `legacy` finds. A program that
 isn't installed is left out. A figure is of the processor time of all processes; of several rounds, of the fastest. All files are
 read once before, so that the system has them in memory."""
 import argparse
@@ -104,7 +104,7 @@ def processor_time(line: str, out: str) -> float:
 
 def main() -> int:
     """Prints the table."""
-    parser = argparse.ArgumentParser(description="Measure the processor time of legacy beside other programs.")
+    parser = argparse.ArgumentParser(description="Measure the processor time of legacy and of other programs.")
     parser.add_argument("top", metavar="TOP", type=pathlib.Path)
     for name, most in ("megabytes", 100), ("small", 20_000), ("names", 2_547), ("files", 68_000), ("rounds", 2):
         parser.add_argument(f"--{name}", metavar="N", type=int, default=most)

@@ -147,8 +147,8 @@ def undo(path: str, found: Found, force: bool = False) -> Iterator[Mended]:
 
 
 class Step(NamedTuple):
-    """A step of a plan: the edits to make in a file, if there are any, whether what they leave is looked at, and what is said of a
-    file without any."""
+    """A step of a plan: the edits to make in a file, if there are any, and whether what they leave is looked at. It has what is said
+    of a file without any."""
 
     edits: "Callable[[Mended, Content], Optional[Sequence[Edit]]]"
     is_looked_at: bool

@@ -80,7 +80,7 @@ class Repairs(work.Job):
         part = item.part
         assert part
         made = self._row(gate, item, content, "sniff" if part.is_first else "keep")
-        # (a head's line feed is no line end of the file)
+        # (a head's line feed isn't the file's)
         made.edits = [it for it in made.edits if it.at >= len(part.head)]
         for it in made.edits:
             it.at += part.start - len(part.head)

@@ -37,8 +37,8 @@ WHOLE_RULES = ("twice", "high-bit")
 
 
 class Shown(NamedTuple):
-    """An edit as it is shown: its file, place and bytes; the line before it, what was there and what is after it; what comes there
-    and what is after it then. Or why there is no line."""
+    """An edit on the page: its file, place and bytes. It has the text before it on its line, its old text, and the text after that,
+    then its new text and the text after that; or the reason for their absence."""
 
     number: int
     path: str
@@ -128,7 +128,7 @@ class Review:
                 mine.append(left.pop(0))
             if mine:
                 content = read_part(item, part)
-                made += self._program.ask(lambda gate: list(_shown(gate, item, content, [(self._edit(it), plain[it]) for it in mine])))
+                made += self._program.ask(lambda gate: list(_show_lines(gate, item, content, [(self._edit(it), plain[it]) for it in mine])))
         yield from made
 
     def _items(self, row: Mended) -> List[Item]:
@@ -176,7 +176,7 @@ def kinds_of(edits: Sequence[Edit]) -> Tuple[List[Dict[str, Any]], List[int]]:
     return [{"rule": key[0], "old": key[1], "new": key[2], "count": count} for key, count in counts], [numbers[it] for it in keys]
 
 
-def _shown(gate: Gate, item: Item, content: bytes, edits: Sequence[Tuple[Edit, Shown]]) -> Iterator[Shown]:
+def _show_lines(gate: Gate, item: Item, content: bytes, edits: Sequence[Tuple[Edit, Shown]]) -> Iterator[Shown]:
     """Edits of a part of a file with their lines, each made alone and taken back."""
     part = item.part
     assert part

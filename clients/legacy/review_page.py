@@ -36,10 +36,13 @@ footer div {{ max-width: 76rem; margin: 0 auto; display: flex; gap: 1rem; align-
 <h1>{title}</h1>
 <p id="sum"></p>
 <h2 id="kinds-title">Kinds</h2>
-<table aria-labelledby="kinds-title"><thead><tr><th scope="col">rule<th scope="col">bytes<th scope="col" class="n">edits<th scope="col" class="n">taken
+<table aria-labelledby="kinds-title">
+<thead><tr><th scope="col">rule<th scope="col">bytes<th scope="col" class="n">edits<th scope="col" class="n">taken
 <th scope="col">all of them</thead><tbody id="kinds"></tbody></table>
 <h2>Edits</h2>
-<nav aria-label="pages"><label>show <select id="only"></select></label><button id="back">back</button><span id="where"></span><button id="next">next</button></nav>
+<nav aria-label="pages">
+<label>show <select id="only"></select></label><button id="back">back</button><span id="where"></span><button id="next">next</button>
+</nav>
 <ol id="edits"></ol>
 </main>
 <footer><div><span id="count" role="status"></span><button id="write">write the plan</button><span id="said" role="status"></span></div></footer>
@@ -50,7 +53,12 @@ const known = JSON.parse(document.getElementById("known").textContent);
 const taken = new Uint8Array(known.edits.length).fill(1), counts = known.kinds.map(it => it.count);
 const SHOWN = 100, at = id => document.getElementById(id);
 let only = -1, first = 0, listed = [], asked = 0;
-const make = (name, text, as) => {{ const it = document.createElement(name); if (text !== undefined) it.textContent = text; if (as) it.className = as; return it; }};
+function make(name, text, as) {{
+  const it = document.createElement(name);
+  if (text !== undefined) it.textContent = text;
+  if (as) it.className = as;
+  return it;
+}}
 const number = it => it.toLocaleString("en");
 const bytes = it => it || "none";
 const kindText = it => it.rule + (it.old || it.new ? `: ${{bytes(it.old)}} becomes ${{bytes(it.new)}}` : "");
@@ -148,7 +156,8 @@ at("write").onclick = async () => {{
     at("write").disabled = false;
   }}
 }};
-at("sum").textContent = `${{number(taken.length)}} edits of ${{number(known.files)}} files. What you leave isn't in the plan that you write.`;
+const files = `${{number(known.files)}} ${{known.files === 1 ? "file" : "files"}}`;
+at("sum").textContent = `${{number(taken.length)}} edits of ${{files}}. What you leave isn't in the plan that you write.`;
 kinds();
 choose();
 </script>
@@ -157,6 +166,6 @@ choose();
 
 def page(known: Dict[str, Any], nonce: str) -> str:
     """The page, with what it knows from the beginning and the nonce of its script."""
-    # (in a script nothing is escaped but by JSON itself)
+    # (in a script only JSON's own escapes count)
     said = json.dumps(known).replace("<", "\\u003c")
     return PAGE.format(title=html.escape(f"legacy review: {known['plan']}"), nonce=nonce, known=said)

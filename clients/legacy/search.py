@@ -119,12 +119,12 @@ class Search(work.Job):
         with gate.open("searched", item.label, content) as document:
             made.encoding = document.encoding
             text = document.text(end=document.stat()["utf32"])
-            made.matches = self._matches(document, text, *self._found(gate, item.label, document, text))
+            made.matches = self._matches(document, text, *self._find(gate, item.label, document, text))
         self.finish(made)
         return made
 
     def part_row(self, gate: Gate, item: Item, content: bytes) -> PartRow:
-        """What a part of a long file has that matches. What is beside it is looked at too: a match may end there, and lines above and
+        """What a part of a long file has that matches. Its neighbours are looked at too: a match may end there, and lines above and
         below may be there."""
         with self._limit():
             return self._part_row(gate, item, content)
@@ -141,7 +141,7 @@ class Search(work.Job):
             made.encoding, length = document.encoding, document.stat()["utf32"]
             text = document.text(end=length)
             begin, end = (_offset(document, len(part.head) + it - part.start, length) for it in (part.begin, part.end))
-            found, across = self._found(gate, item.label, document, text)
+            found, across = self._find(gate, item.label, document, text)
             made.matches = self._matches(document, text, [it for it in found if begin <= it[0] < end], across)
         lines = LinesAt(text)
         (first, start), (last, tail) = lines.at(begin), lines.at(end)
@@ -169,12 +169,12 @@ class Search(work.Job):
         whole.outcome = FOUND if whole.matches else DONE
 
     def _is_without(self, gate: Gate, encoding: str, content: bytes) -> bool:
-        """Whether the bytes say that there is no match, since the expression is a text that isn't there."""
+        """Whether the bytes say that there is no match, since they lack those of the text."""
         is_other = self.ignore_case or self.folds or self.is_inverted or self.through_damage
         is_literal = not is_other and literals.is_literal(self.expression, self.is_text)
         return is_literal and not literals.LITERALS.may_be_in(gate, encoding, self.expression, content)
 
-    def _found(self, gate: Gate, label: str, document: Document, text: str) -> Tuple[List[Range], Set[Range]]:
+    def _find(self, gate: Gate, label: str, document: Document, text: str) -> Tuple[List[Range], Set[Range]]:
         """Where matches begin and end in the text of a document, and which of them were found across damage."""
         expression = self.pattern()
         found = self._places(expression, text)

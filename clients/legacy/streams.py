@@ -32,7 +32,7 @@ def convert(found: Found, how: Conversion, source: int, target: int) -> None:
 
 
 def check(found: Found, label: str, source: int) -> Dict[str, Any]:
-    """What `gate check` says of the file with the descriptor `source`, from its beginning on."""
+    """What `gate check` says of the file with the descriptor `source`, starting at its first byte."""
     os.lseek(source, 0, os.SEEK_SET)
     labels = ["--labels", str(found.labels)] if found.labels else []
     words = [found.gate, "check", "--indexes", str(found.indexes), *labels, "--from", label, "--errors", "1"]

@@ -144,7 +144,8 @@ class Inputs(Folder):
 
     def test_a_long_member_is_looked_at_by_parts(self):
         content = b"ab\n" * 1000 + A
-        for name, made in ("a.txt.gz", gzip.compress(content)), ("b.tar", tar("w", content)), ("c.eml", MAIL.replace(b"gqD/", base64.encodebytes(content))):
+        mail = MAIL.replace(b"gqD/", base64.encodebytes(content))
+        for name, made in ("a.txt.gz", gzip.compress(content)), ("b.tar", tar("w", content)), ("c.eml", mail):
             self.file(f"in/{name}", made)
         known = list(check([str(self.folder / "in")], settings(encoding=[("*.txt", "shift_jis")], members=True)))
         with unittest.mock.patch.object(reading, "WHOLE", 40), unittest.mock.patch.object(cuts, "PART", 500):

@@ -1,12 +1,12 @@
-"""Where a long file is cut into parts that decode as they do in the file: behind bytes at which decoding begins anew.
+"""Where a long file is cut into parts that decode as they do in the file: after bytes that leave the decoder in its first state.
 
 In all encodings except UTF-16 and ISO-2022-JP, a byte of ASCII ends the character or the error that it is in, and leaves the
 decoder in its first state. Only a digit in GBK and gb18030 may be the second of four bytes. In UTF-16 that state follows each code unit that isn't a lead surrogate. In
 ISO-2022-JP a line feed leaves ASCII or JIS X 0201's Latin letters as the last escape has set them. A part in the second state
-is decoded behind its escape. CR LF is never cut."""
+is decoded after its escape. CR LF is never cut."""
 from typing import Callable, Iterator, NamedTuple, Optional, Protocol, Tuple
 
-# A part's bytes, at most, unless there is nowhere to cut it: then those of `MOST`.
+# The most bytes of a part. If there is nowhere to cut it, `MOST` are.
 PART, MOST = 1 << 21, 1 << 23
 # Bytes of ASCII, except CR.
 ASCII = bytes(it for it in range(0x80) if it != 0x0D)
@@ -38,8 +38,8 @@ class Uncut(Exception):
     """There is nowhere to cut a file."""
 
 
-# The last place up to a place at which bytes may be cut, given the bytes, the first place that may be, and the head of their
-# start: the place, and the head there.
+# What finds the last place at which bytes may be cut, and the head there. It is given the bytes, the first and the last place that
+# may be, and the head of their start.
 Last = Callable[[bytes, int, int, bytes], Optional[Tuple[int, bytes]]]
 
 
@@ -156,7 +156,7 @@ def parts(file: Readable, first: bytes, encoding: str, beside: int = 0) -> Itera
 
 
 def _fill(file: Readable, content: bytes, size: int) -> Tuple[bytes, bool]:
-    """A content with as much of the file behind it as makes it so many bytes, and whether that is all of the file."""
+    """A content with as much of the file after it as makes it so many bytes, and whether that is all of the file."""
     more = [content]
     missing = size - len(content)
     while missing > 0:

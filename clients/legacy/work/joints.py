@@ -39,7 +39,7 @@ def move_line(place: Lined, before: Before) -> None:
 
 
 def tail_of(gate: Gate, encoding: str, content: bytes) -> int:
-    """The code points after the last line end of a part that ends where decoding begins anew."""
+    """The code points after the last line end of a part, which leaves the decoder in its first state."""
     if encoding.startswith("UTF-16"):
         with gate.open("tail", encoding, content, "keep") as document:
             return document.position(document.stat()["utf32"], unit="utf-32")[1]

@@ -25,7 +25,7 @@ FAULTS = (tarfile.TarError, zipfile.BadZipFile, zlib.error, lzma.LZMAError, EOFE
 
 
 class Member(NamedTuple):
-    """A member by its name: its bytes, or why it has none, and the encoding that is said of it, if any is. Of a long one it has the
+    """A member by its name: its bytes, or why it has none, and the encoding that is said of it, if any is. A long one has its
     first bytes, and `rest`, from which the others are read before the next member is asked for."""
 
     name: str
@@ -62,7 +62,7 @@ def members(path: str) -> Iterator[Member]:
 
 
 def _read_member(name: str, file: Optional[IO[bytes]]) -> Member:
-    """A member of what a file has. Of a long one the first bytes are read."""
+    """A member of what a file has; only the first bytes of a long one are read."""
     content = file.read(reading.WHOLE + 1) if file else b""
     return Member(name, content, rest=file if len(content) > reading.WHOLE else None)
 
@@ -83,7 +83,7 @@ def _of_zip(file: IO[bytes]) -> Iterator[Member]:
 
 
 def _messages(file: IO[bytes]) -> Iterator[bytes]:
-    """The messages of an mbox, each of which begins behind a line From after an empty line."""
+    """The messages of an mbox, each of which begins with a line From that follows an empty one."""
     begun: List[bytes] = []
     is_begun, is_behind_empty = False, True
     for line in file:

@@ -27,8 +27,8 @@ Answer = TypeVar("Answer")
 
 class Item(NamedTuple):
     """A file to do a job on: its path, what it was when the tree was walked, and the label that its rule names. It has its bytes
-    if no file has them, for example those of standard input and of an archive's member; of long ones the first bytes, and `rest`,
-    from which the others are read. If it is a part of a long file, it has that part, and the size is the file's."""
+    if no file has them, for example those of standard input and of an archive's member. If these are many, it has the first, and
+    `rest`, from which the others are read. If it is a part of a long file, it has that part, and the size is the file's."""
 
     path: str
     size: int

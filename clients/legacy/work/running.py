@@ -254,10 +254,10 @@ def _standard_input(label: str) -> Item:
     """Standard input, which no later run has again."""
     content = sys.stdin.buffer.read(reading.WHOLE + 1)
     rest = sys.stdin.buffer if len(content) > reading.WHOLE else None
-    return _held(Item(STDIN, len(content), time.time_ns(), label, "", content, rest=rest))
+    return _drop_unruled(Item(STDIN, len(content), time.time_ns(), label, "", content, rest=rest))
 
 
-def _held(item: Item) -> Item:
+def _drop_unruled(item: Item) -> Item:
     """An item that has its bytes, without them if no rule names its encoding."""
     return item if item.label else item._replace(content=b"", rest=None)
 
@@ -271,7 +271,7 @@ def _members(entry: Entry, settings: Settings, label_of: Callable[[Entry, str], 
             yield Item(path, len(it.content), entry.time, "", it.fault)
             continue
         said = encoding_of(it.charset) if it.charset else None
-        yield _held(Item(path, len(it.content), entry.time, said.label if said else label_of(entry, inside), "", it.content, rest=it.rest))
+        yield _drop_unruled(Item(path, len(it.content), entry.time, said.label if said else label_of(entry, inside), "", it.content, rest=it.rest))
 
 
 def _lists(items: Iterable[Item]) -> Iterator[List[Item]]:
