@@ -1,9 +1,9 @@
 """Where a long file is cut into parts that decode as they do in the file: after bytes that leave the decoder in its first state.
 
 In all encodings except UTF-16 and ISO-2022-JP, a byte of ASCII ends the character or the error that it is in, and leaves the
-decoder in its first state. Only a digit in GBK and gb18030 may be the second of four bytes. In UTF-16 that state follows each code unit that isn't a lead surrogate. In
-ISO-2022-JP a line feed leaves ASCII or JIS X 0201's Latin letters as the last escape has set them. A part in the second state
-is decoded after its escape. CR LF is never cut."""
+decoder in its first state. Only a digit in GBK and gb18030 may be the second of four bytes. In UTF-16 that state follows each
+code unit that isn't a lead surrogate. In ISO-2022-JP a line feed leaves ASCII or JIS X 0201's Latin letters as the last escape
+has set them. A part in the second state is decoded after its escape. CR LF is never cut."""
 from typing import Callable, Iterator, NamedTuple, Optional, Protocol, Tuple
 
 # The most bytes of a part. If there is nowhere to cut it, `MOST` are.
