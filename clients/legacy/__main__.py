@@ -25,6 +25,7 @@ SUBCOMMANDS: Tuple[str, ...] = (
     "convert",
     "verify",
     "mend",
+    "review",
     "diff",
     "textconv",
     "lsp",

@@ -8,7 +8,7 @@ import collections
 import dataclasses
 import shlex
 import sys
-from typing import Any, ClassVar, Counter, Dict, Iterator, List, Sequence, Tuple, Type
+from typing import Any, ClassVar, Counter, Dict, Iterator, List, Optional, Sequence, Tuple, Type
 
 from gate import Document, Gate
 
@@ -17,7 +17,8 @@ from legacy.ascii import MARKS, Rest, plain
 from legacy.controls import BYTES, CONTROL, counts_of
 from legacy.ends import LINE_END, Ends, LinesAt, ends_of
 from legacy.terminals import quantity, quote_path, visible_text
-from legacy.work import DONE, FOUND, PASSED, REFUSED, Item, Row, Settings
+from legacy.work import DONE, FOUND, PASSED, REFUSED, Before, Item, PartRow, Row, Settings
+from legacy.work.joints import has_head, move_bytes, move_line, tail_of
 
 ABOUT = ("Check each file of these trees: its encoding, errors with line, character, place and bytes, line ends of several kinds, and a byte"
          " order mark that disagrees with the rule. The status is 0 where all is clean, 1 where damage was found, 2 where something couldn't"
@@ -83,9 +84,15 @@ class Check(work.Job):
     controls: bool = True
 
     rows: ClassVar[Type[Row]] = Checked
+    beside: ClassVar[Optional[int]] = 0
 
     def row(self, gate: Gate, item: Item, content: bytes) -> Checked:
         """What is wrong with a file."""
+        made = self._row(gate, item, content)
+        self.finish(made)
+        return made
+
+    def _row(self, gate: Gate, item: Item, content: bytes, is_first: bool = True) -> Checked:
         made = Checked(item.path, len(content), item.label)
         given = ENCODINGS.of(gate, item.label)
         is_suspect = self.controls and (content.startswith(MARKS) or BYTES.may_be_in(gate, given, content))
@@ -93,14 +100,48 @@ class Check(work.Job):
             made.encoding, made.characters, made.ends = given, len(content), ends_of(content)
         else:
             rest = Rest(content, given, is_whole=is_suspect)
-            with gate.open("checked", item.label, rest.content, rest.bom) as document:
+            with gate.open("checked", item.label, rest.content, rest.bom if is_first else "keep") as document:
                 self._look(document, made, rest)
                 if is_suspect:
                     self._look_for_controls(document, made)
-        found = {ERRORS: made.errors > 0, LINE_ENDS: made.ends.kinds > 1, MARK: made.encoding != given, CONTROLS: bool(made.controls)}
-        made.damage = [it for it in KINDS if found[it] and it in self.kinds]
-        made.outcome = FOUND if made.damage else DONE
+        made.damage = [MARK] if made.encoding != given else []
         return made
+
+    def part_row(self, gate: Gate, item: Item, content: bytes) -> PartRow:
+        """What is wrong with a part of a long file."""
+        part = item.part
+        assert part
+        made = self._row(gate, item, content, part.is_first)
+        for it in [*made.places, *made.control_places]:
+            move_bytes(it, part)
+            it.line -= has_head(part)
+        made.characters -= has_head(part)
+        made.ends.lf -= has_head(part)
+        tail = 0 if part.is_last else tail_of(gate, made.encoding, content)
+        return PartRow(item.path, item.size, item.label, made=made, lines=made.ends.count, tail=tail)
+
+    def join(self, whole: Row, part: Row, before: Before) -> None:
+        """Adds what is wrong with a part."""
+        assert isinstance(whole, Checked) and isinstance(part, Checked)
+        for it in [*part.places, *part.control_places]:
+            move_line(it, before)
+        whole.encoding, whole.damage = part.encoding, whole.damage or part.damage
+        whole.bom += part.bom
+        whole.characters += part.characters
+        whole.errors += part.errors
+        whole.ends += part.ends
+        whole.places += part.places[: self.most - len(whole.places)]
+        whole.control_places += part.control_places[: self.most - len(whole.control_places)]
+        for name, count in part.controls.items():
+            whole.controls[name] = whole.controls.get(name, 0) + count
+
+    def finish(self, whole: Row) -> None:
+        """Says which kinds of damage a file has."""
+        assert isinstance(whole, Checked)
+        found = {ERRORS: whole.errors > 0, LINE_ENDS: whole.ends.kinds > 1, MARK: MARK in whole.damage, CONTROLS: bool(whole.controls)}
+        whole.damage = [it for it in KINDS if found[it] and it in self.kinds]
+        whole.controls = dict(sorted(whole.controls.items()))
+        whole.outcome = FOUND if whole.damage else DONE
 
     def _look(self, document: Document, made: Checked, rest: Rest) -> None:
         stat = document.stat()
@@ -109,7 +150,6 @@ class Check(work.Job):
         made.ends = _ends(document, stat["lines"] - 1) + rest.ends
         if made.errors:
             made.places = [_in_file(it, *rest.before(it.begin)) for it in places_of(document, self.most)]
-
 
     def _look_for_controls(self, document: Document, made: Checked) -> None:
         text = document.text()

@@ -33,6 +33,19 @@ class Forms(NamedTuple):
         return self.longer is not None and self.longer.search(content) is not None
 
 
+def any_of(forms: List[bytes]) -> bytes:
+    """The expression of any of these bytes, of which none begins another. Each byte is looked at once, and not once for each
+    form."""
+    if len(forms) < 2:
+        return b"".join(map(re.escape, forms))
+    if all(len(it) == 1 for it in forms):
+        return b"[%b]" % re.escape(b"".join(forms))
+    rest: Dict[bytes, List[bytes]] = {}
+    for it in forms:
+        rest.setdefault(it[:1], []).append(it[1:])
+    return b"(?:%b)" % b"|".join(re.escape(first) + any_of(others) for first, others in rest.items())
+
+
 class Bytes:
     """The bytes that these characters have in an encoding. A content without them has no such character; in another they may be
     parts of other characters."""
@@ -44,7 +57,7 @@ class Bytes:
         """Whether a content in an encoding may have such a character."""
         if encoding not in self._known:
             found = self._ask(gate, ASKED.get(encoding, encoding))
-            longer = b"|".join(re.escape(it) for it in found if len(it) > 1)
+            longer = any_of([it for it in found if len(it) > 1])
             single = b"".join(it for it in found if len(it) == 1)
             self._known[encoding] = Forms(single, re.compile(longer) if longer else None) if found else None
         forms = self._known[encoding]

@@ -82,7 +82,7 @@ class Convert(work.Job):
         return made
 
     def stream_row(self, found: Found, item: Item) -> Row:
-        """Converts a file that is too large for a document, by `gate convert`."""
+        """Converts a long file, by `gate convert`."""
         made = Converted(item.path, item.size, item.label)
         made.out, made.encoding, mark = WORKER.program(found).ask(lambda gate: (self._out(item.path, gate), *self._in_force(gate, item)))
         self._make_folders(item.path, made.out)

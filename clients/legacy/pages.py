@@ -77,7 +77,12 @@ def readable(path: str) -> str:
 
 def escape_html(text: str) -> str:
     """A text in HTML, in which no character moves or hides others."""
-    return html.escape(re.sub("[\0-\x1f\x7f\u061c\u200e\u200f\u2028-\u202e\u2066-\u2069]", _picture, text))
+    return html.escape(draw_controls(text))
+
+
+def draw_controls(text: str) -> str:
+    """A text in which no character moves or hides others."""
+    return re.sub("[\0-\x1f\x7f\u061c\u200e\u200f\u2028-\u202e\u2066-\u2069]", _picture, text)
 
 
 def _picture(it: "re.Match[str]") -> str:

@@ -1,25 +1,26 @@
 """Plans of repairs, each line of which is an edit (docs/ARCHIVES.md): how one is written and read, applied, taken back, and looked
 at for how far it is."""
 import dataclasses
+import functools
 import hashlib
+import io
 import json
 import os
-from typing import Callable, Dict, Iterator, Optional, Sequence
+from typing import Callable, Dict, Iterator, List, NamedTuple, Optional, Sequence
 
-from gate import Gate
-
-from legacy import work
+from legacy import splices, work
 from legacy.finding import Found, Missing
 from legacy.repairs import Edit, Mended, Repairs, apart, apply_edits, look_at
 from legacy.terminals import quote_path
 from legacy.work import DONE, FOUND, PASSED, REFUSED, Item, Program, Refusal, Settings, refusals
-from legacy.work.drafts import draft, ordinary_mode
+from legacy.splices import reverse
+from legacy.work import reading
+from legacy.work.drafts import Draft, draft, ordinary_mode
 from legacy.work.outputs import look_at_output
+from legacy.work.reading import open_file
 from legacy.work.walk import STDIN, look_apart
-from legacy.work.writing import replace, sync_names
+from legacy.work.writing import replace, rewrite, sync_names
 
-# The bytes that replace a file's bytes, or None if it keeps them.
-Make = Callable[[Mended, bytes, Gate], Optional[bytes]]
 # Why a file is neither as a plan has it nor as it would be.
 CHANGED = "it has changed since"
 
@@ -67,16 +68,26 @@ def _name_in_use(path: str) -> Missing:
     return Missing(f"{quote_path(path)} is there already, and may be what takes repairs back")
 
 
-def read_plan(path: str, force: bool = False) -> Iterator[Mended]:
-    """The files of a plan, each with its edits in order. Raises `Missing` if a line isn't an edit, or, unless that is forced, has
-    a relative path."""
+class Line(NamedTuple):
+    """A line of a plan, and the file with the one edit that it has."""
+
+    text: str
+    row: Mended
+
+
+def lines_of(path: str, force: bool = False) -> List[Line]:
+    """The lines of a plan. Raises `Missing` if one of them isn't an edit, or, unless that is forced, has a relative path."""
     try:
         with open(path, encoding="utf-8") as file:
-            lines = [_line(path, number, line, force) for number, line in enumerate(file, 1) if line.strip()]
+            return [Line(line, _row(path, number, line, force)) for number, line in enumerate(file, 1) if line.strip()]
     except (OSError, UnicodeDecodeError) as fault:
         raise Missing(f"{quote_path(path)}: {fault.strerror if isinstance(fault, OSError) else 'it is no UTF-8'}") from fault
+
+
+def read_plan(path: str, force: bool = False) -> Iterator[Mended]:
+    """The files of a plan, each with its edits in order. Raises `Missing` as `lines_of` does, and if edits overlap."""
     files: Dict[str, Mended] = {}
-    for row in lines:
+    for _, row in lines_of(path, force):
         known = files.setdefault(row.path, row)
         if (known.sha256, known.label) != (row.sha256, row.label):
             raise Missing(f"{quote_path(path)}: {quote_path(row.path)} is there with two SHA-256 or labels")
@@ -89,7 +100,7 @@ def read_plan(path: str, force: bool = False) -> Iterator[Mended]:
         yield row
 
 
-def _line(path: str, number: int, line: str, force: bool) -> Mended:
+def _row(path: str, number: int, line: str, force: bool) -> Mended:
     try:
         members = json.loads(line)
         row = Mended(members.pop("path"), 0, members.pop("label"), sha256=members.pop("sha256"))
@@ -110,76 +121,97 @@ def _line(path: str, number: int, line: str, force: bool) -> Mended:
 
 def apply(path: str, found: Found, force: bool = False) -> Iterator[Mended]:
     """The rows of a plan's files, each once it is mended. One that was mended by this plan before stays."""
-    def new(row: Mended, content: bytes, gate: Gate) -> Optional[bytes]:
-        if hashlib.sha256(content).hexdigest() != row.sha256:
-            if _back(row, content) is None:
+    def edits(row: Mended, of: Content) -> Optional[Sequence[Edit]]:
+        if of.sha256() != row.sha256:
+            if of.sha256(reverse(row.edits)) != row.sha256:
                 raise Refusal(CHANGED)
             return None
-        if not _are_there(content, row.edits):
+        if not of.has_old_bytes(row.edits):
             raise Refusal("the plan's old bytes aren't there")
-        made = apply_edits(content, row.edits)
-        look_at(gate, row.label, content, made)
-        return made
+        return row.edits
 
-    return _each(list(read_plan(path, force)), found, new, "it is mended already")
+    return _each(list(read_plan(path, force)), found, Step(edits, True, "it is mended already"))
 
 
 def undo(path: str, found: Found, force: bool = False) -> Iterator[Mended]:
     """The rows of a plan's files, each once it has its old bytes again. One that has them stays."""
-    def old(row: Mended, content: bytes, _: Gate) -> Optional[bytes]:
-        if hashlib.sha256(content).hexdigest() == row.sha256:
+    def edits(row: Mended, of: Content) -> Optional[Sequence[Edit]]:
+        if of.sha256() == row.sha256:
             return None
-        back = _back(row, content)
-        if back is None:
+        back = reverse(row.edits)
+        if of.sha256(back) != row.sha256:
             raise Refusal(CHANGED)
         return back
 
-    return _each(list(read_plan(path, force)), found, old, "it is as it was")
+    return _each(list(read_plan(path, force)), found, Step(edits, False, "it is as it was"))
 
 
-def _back(row: Mended, content: bytes) -> Optional[bytes]:
-    """The bytes before the edits, if these are the bytes after them."""
-    back, more = [], 0
-    for it in row.edits:
-        back.append(dataclasses.replace(it, at=it.at + more, old=it.new, new=it.old))
-        more += len(bytes.fromhex(it.new)) - len(bytes.fromhex(it.old))
-    made = apply_edits(content, back) if _are_there(content, back) else b""
-    return made if hashlib.sha256(made).hexdigest() == row.sha256 else None
+class Step(NamedTuple):
+    """A step of a plan: the edits to make in a file, if there are any, and whether what they leave is looked at. It has what is said
+    of a file without any."""
+
+    edits: "Callable[[Mended, Content], Optional[Sequence[Edit]]]"
+    is_looked_at: bool
+    stays: str
 
 
-def _are_there(content: bytes, edits: Sequence[Edit]) -> bool:
-    """Whether the content has the old bytes of all edits."""
-    return all(content[it.at : it.end] == bytes.fromhex(it.old) for it in edits)
+class Content:
+    """The bytes of a file, which isn't read as a whole if it is long. Edits that it hasn't the old bytes of make nothing of it."""
+
+    def __init__(self, row: Mended, known: os.stat_result):
+        self._row, self.known = row, known
+        row.size = known.st_size
+        self.file = io.FileIO(open_file(row.path), "rb") if known.st_size > reading.WHOLE else None
+        self.bytes = b"" if self.file else work.read(Item(row.path, known.st_size, known.st_mtime_ns, row.label))
+
+    def sha256(self, edits: Sequence[Edit] = ()) -> str:
+        """The SHA-256 of what edits make of it."""
+        if not self.has_old_bytes(edits):
+            return ""
+        return splices.sha256(self.file, edits) if self.file else hashlib.sha256(apply_edits(self.bytes, edits)).hexdigest()
+
+    def has_old_bytes(self, edits: Sequence[Edit]) -> bool:
+        """Whether it has the old bytes of all edits."""
+        if self.file:
+            return splices.are_there(self.file, edits)
+        return all(self.bytes[it.at : it.end] == bytes.fromhex(it.old) for it in edits)
+
+    def make(self, edits: Sequence[Edit], program: Program, is_looked_at: bool) -> None:
+        """Makes these edits in the file."""
+        if self.file:
+            rewrite(self._row.path, functools.partial(self._write, self.file, edits, program.found if is_looked_at else None), self.known)
+            return
+        made = apply_edits(self.bytes, edits)
+        if is_looked_at:
+            program.ask(lambda gate: look_at(gate, self._row.label, self.bytes, made))
+        replace(self._row.path, made, self.known)
+
+    def _write(self, file: io.FileIO, edits: Sequence[Edit], found: Optional[Found], made: Draft) -> None:
+        for block in splices.blocks(file, edits):
+            made.write(block)
+        if found:
+            splices.look_at(found, self._row.label, file.fileno(), made.number)
+
+    def __enter__(self) -> "Content":
+        return self
+
+    def __exit__(self, *_: object) -> None:
+        if self.file:
+            self.file.close()
 
 
-def _each(rows: Sequence[Mended], found: Found, make: Make, stays: str) -> Iterator[Mended]:
+def _each(rows: Sequence[Mended], found: Found, step: Step) -> Iterator[Mended]:
     with Program(found) as program:
         for row in rows:
             try:
-                with refusals(row.label):
-                    is_done = _remade(row, make, program)
-                row.outcome, row.reason = (DONE, "") if is_done else (PASSED, stays)
+                with refusals(row.label), Content(row, os.stat(row.path)) as content:
+                    edits = step.edits(row, content)
+                    if edits is not None:
+                        content.make(edits, program, step.is_looked_at)
+                row.outcome, row.reason = (DONE, "") if edits is not None else (PASSED, step.stays)
             except Refusal as fault:
                 row.outcome, row.reason = REFUSED, str(fault)
             yield row
-
-
-def _content(row: Mended, known: Optional[os.stat_result] = None) -> bytes:
-    """The bytes of a file."""
-    known = known or os.stat(row.path)
-    content = work.read(Item(row.path, known.st_size, known.st_mtime_ns, row.label))
-    row.size = len(content)
-    return content
-
-
-def _remade(row: Mended, make: Make, program: Program) -> bool:
-    """Gives a file the bytes that are made of those that it has, and returns whether there are any."""
-    known = os.stat(row.path)
-    content = _content(row, known)
-    made = program.ask(lambda gate: make(row, content, gate))
-    if made is not None:
-        replace(row.path, made, known)
-    return made is not None
 
 
 def status(path: str, force: bool = False) -> Iterator[Mended]:
@@ -187,11 +219,10 @@ def status(path: str, force: bool = False) -> Iterator[Mended]:
     if the file has neither the old nor the new bytes."""
     for row in list(read_plan(path, force)):
         try:
-            with refusals(row.label):
-                content = _content(row)
-            is_old = hashlib.sha256(content).hexdigest() == row.sha256
-            if not is_old and _back(row, content) is None:
-                raise Refusal(CHANGED)
+            with refusals(row.label), Content(row, os.stat(row.path)) as content:
+                is_old = content.sha256() == row.sha256
+                if not is_old and content.sha256(reverse(row.edits)) != row.sha256:
+                    raise Refusal(CHANGED)
             row.outcome = FOUND if is_old else DONE
         except Refusal as fault:
             row.outcome, row.reason = REFUSED, str(fault)

@@ -9,7 +9,9 @@ from gate import Document, Fault, Gate
 from legacy import work
 from legacy.ends import LINE_END
 from legacy.terminals import quantity
-from legacy.work import FOUND, LARGEST, Item, Refusal, Row
+from legacy.work import FOUND, LARGEST, Before, Item, PartRow, Refusal, Row
+from legacy.work.joints import has_head, move_line, tail_of
+from legacy.work.writing import sha256_of
 
 ENDS = {"lf": "\n", "crlf": "\r\n", "cr": "\r"}
 CODECS = {"UTF-16LE": "utf-16-le", "UTF-16BE": "utf-16-be"}
@@ -64,11 +66,47 @@ class Repairs(work.Job):
     line_ends: Optional[str] = None
 
     rows: ClassVar[Type[Row]] = Mended
+    beside: ClassVar[Optional[int]] = 0
 
     def row(self, gate: Gate, item: Item, content: bytes) -> Mended:
         """The edits that mend a file."""
+        made = self._row(gate, item, content)
+        if made.edits:
+            made.sha256, made.outcome = hashlib.sha256(content).hexdigest(), FOUND
+        return made
+
+    def part_row(self, gate: Gate, item: Item, content: bytes) -> PartRow:
+        """The edits that mend a part of a long file."""
+        part = item.part
+        assert part
+        made = self._row(gate, item, content, "sniff" if part.is_first else "keep")
+        # (a head's line feed isn't the file's)
+        made.edits = [it for it in made.edits if it.at >= len(part.head)]
+        for it in made.edits:
+            it.at += part.start - len(part.head)
+            it.line -= has_head(part)
+        with gate.open("part", item.label, content, "sniff" if part.is_first else "keep") as document:
+            stat, encoding = document.stat(), document.encoding
+        tail = 0 if part.is_last else tail_of(gate, encoding, content)
+        return PartRow(item.path, item.size, item.label, made=made, lines=stat["lines"] - 1 - has_head(part), tail=tail)
+
+    def join(self, whole: Row, part: Row, before: Before) -> None:
+        """Adds the edits of a part."""
+        assert isinstance(whole, Mended) and isinstance(part, Mended)
+        for it in part.edits:
+            move_line(it, before)
+        whole.edits += part.edits
+        whole.stay += part.stay
+
+    def finish(self, whole: Row) -> None:
+        """Looks at a whole file for its SHA-256."""
+        assert isinstance(whole, Mended)
+        if whole.edits:
+            whole.sha256, whole.outcome = sha256_of(whole.path), FOUND
+
+    def _row(self, gate: Gate, item: Item, content: bytes, bom: str = "sniff") -> Mended:
         made = Mended(item.path, len(content), item.label)
-        with gate.open("mended", item.label, content) as document:
+        with gate.open("mended", item.label, content, bom) as document:
             text = document.text()
             found = list(self._line_ends(document, text))
             if self.twice:
@@ -79,8 +117,7 @@ class Repairs(work.Job):
                 found += self._errors(gate, document)
             made.edits = apart(sorted(found, key=lambda it: it.at))
         if made.edits:
-            made.sha256, made.outcome = hashlib.sha256(content).hexdigest(), FOUND
-            look_at(gate, item.label, content, apply_edits(content, made.edits))
+            look_at(gate, item.label, content, apply_edits(content, made.edits), bom)
         return made
 
     def _errors(self, gate: Gate, document: Document) -> Iterator[Edit]:
@@ -230,11 +267,11 @@ def apply_edits(content: bytes, edits: Sequence[Edit]) -> bytes:
     return b"".join([*parts, content[last:]])
 
 
-def look_at(gate: Gate, label: str, old: bytes, new: bytes) -> None:
+def look_at(gate: Gate, label: str, old: bytes, new: bytes, bom: str = "sniff") -> None:
     """Raises `Refusal` if new bytes have more errors than the old ones, another encoding, or are too many."""
     if len(new) > LARGEST:
         raise Refusal(f"it would have {len(new)} bytes; {LARGEST} are the most")
-    with gate.open("old", label, old) as before, gate.open("new", label, new) as after:
+    with gate.open("old", label, old, bom) as before, gate.open("new", label, new, bom) as after:
         errors, left = (it.stat()["errors"] for it in (before, after))
     if (before.encoding, before.bom) != (after.encoding, after.bom):
         raise Refusal(f"its first bytes would say that it is {after.encoding}")

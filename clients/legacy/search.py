@@ -8,19 +8,20 @@ import dataclasses
 import functools
 import re
 import sys
-from typing import Any, ClassVar, Iterator, List, Optional, Pattern, Sequence, Set, Type
+from typing import Any, ClassVar, ContextManager, Iterator, List, Optional, Pattern, Sequence, Set, Tuple, Type
 
 from gate import Document, Gate
 
-from legacy import listing, work
+from legacy import listing, literals, work
 from legacy.ascii import plain
 from legacy.check import ENCODINGS
 from legacy.damage import Range, across
-from legacy.ends import LINE_END, LinesAt, in_lines, lines_in, within, without
+from legacy.ends import LINE_END, LinesAt, ends_of, in_lines, lines_in, within, without
 from legacy.finding import Missing
 from legacy.folding import Folded, folded_expression
 from legacy.terminals import quote_path, visible_text
-from legacy.work import DONE, FOUND, REFUSED, Item, Row, Settings
+from legacy.work import DONE, FOUND, REFUSED, Before, Item, PartRow, Row, Settings
+from legacy.work.joints import move_bytes, move_line, tail_of
 
 ABOUT = ("Search the text of the files of these trees for a regular expression, as Python's module re has them; ^ and $ are those of a line,"
          " whatever ends it, and empty matches are left out. The status is 0 where something was found, 1 where nothing was, 2 where something"
@@ -28,6 +29,8 @@ ABOUT = ("Search the text of the files of these trees for a regular expression, 
 
 # The seconds that an expression may take in a file, unless it is given others.
 SECONDS = 60.0
+# The bytes of its neighbours that are looked at with a part of a long file, so the most that a match over its end has.
+BESIDE = 1 << 16
 # The flags that begin an expression, if it has any.
 FLAGS = re.compile(r"(?:\(\?[aiLmsux]+\))?")
 # The code points of a line that are shown beside a match, at most.
@@ -85,6 +88,7 @@ class Search(work.Job):
 
     rows: ClassVar[Type[Row]] = Searched
     is_bounded: ClassVar[bool] = True
+    beside: ClassVar[Optional[int]] = BESIDE
 
     def pattern(self) -> Pattern[str]:
         """The expression as it is looked for. Raises `re.error` if it isn't one."""
@@ -100,24 +104,83 @@ class Search(work.Job):
 
     def row(self, gate: Gate, item: Item, content: bytes) -> Searched:
         """What a file has that matches."""
-        with work.time_limit(self.seconds, f"the expression takes more than {self.seconds:g} seconds"):
+        with self._limit():
             return self._row(gate, item, content)
+
+    def _limit(self) -> "ContextManager[None]":
+        return work.time_limit(self.seconds, f"the expression takes more than {self.seconds:g} seconds")
 
     def _row(self, gate: Gate, item: Item, content: bytes) -> Searched:
         made = Searched(item.path, len(content), item.label, encoding=ENCODINGS.of(gate, item.label))
-        expression = self.pattern()
-        if plain(content, made.encoding) and not self._places(expression, content.decode("ascii")):
+        if self._is_without(gate, made.encoding, content):
+            return made
+        if plain(content, made.encoding) and not self._places(self.pattern(), content.decode("ascii")):
             return made
         with gate.open("searched", item.label, content) as document:
             made.encoding = document.encoding
-            stat = document.stat()
-            text = document.text(end=stat["utf32"])
-            found = self._places(expression, text)
-            cut = stat["errors"] and self.through_damage
-            more = across(gate, item.label, document, text, expression, found) if cut else []
-            made.matches = self._matches(document, text, sorted(found + more), set(more))
-        made.outcome = FOUND if made.matches else DONE
+            text = document.text(end=document.stat()["utf32"])
+            made.matches = self._matches(document, text, *self._find(gate, item.label, document, text))
+        self.finish(made)
         return made
+
+    def part_row(self, gate: Gate, item: Item, content: bytes) -> PartRow:
+        """What a part of a long file has that matches. Its neighbours are looked at too: a match may end there, and lines above and
+        below may be there."""
+        with self._limit():
+            return self._part_row(gate, item, content)
+
+    def _part_row(self, gate: Gate, item: Item, content: bytes) -> PartRow:
+        part = item.part
+        assert part
+        made = Searched(item.path, item.size, item.label, encoding=ENCODINGS.of(gate, item.label))
+        if self._is_without(gate, made.encoding, content):
+            own = content[part.begin - part.start : part.end - part.start]
+            tail = 0 if part.is_last else tail_of(gate, made.encoding, own)
+            return PartRow(item.path, item.size, item.label, made=made, lines=ends_of(own).count, tail=tail)
+        with gate.open("searched", item.label, content, "sniff" if part.is_first else "keep") as document:
+            made.encoding, length = document.encoding, document.stat()["utf32"]
+            text = document.text(end=length)
+            begin, end = (_offset(document, len(part.head) + it - part.start, length) for it in (part.begin, part.end))
+            found, across = self._find(gate, item.label, document, text)
+            made.matches = self._matches(document, text, [it for it in found if begin <= it[0] < end], across)
+        lines = LinesAt(text)
+        (first, start), (last, tail) = lines.at(begin), lines.at(end)
+        for it in made.matches:
+            move_bytes(it, part)
+            it.character -= begin - start if it.line == first else 0
+            it.line -= first - 1
+        return PartRow(item.path, item.size, item.label, made=made, lines=last - first, tail=end - max(begin, tail))
+
+    def join(self, whole: Row, part: Row, before: Before) -> None:
+        """Adds the matches of a part."""
+        assert isinstance(whole, Searched) and isinstance(part, Searched)
+        whole.encoding = part.encoding
+        lines = {it.line for it in whole.matches} if self.most is not None else set()
+        for it in part.matches:
+            move_line(it, before)
+            lines.add(it.line)
+            if self.most is not None and len(lines) > self.most:
+                break
+            whole.matches.append(it)
+
+    def finish(self, whole: Row) -> None:
+        """Says whether a file has matches."""
+        assert isinstance(whole, Searched)
+        whole.outcome = FOUND if whole.matches else DONE
+
+    def _is_without(self, gate: Gate, encoding: str, content: bytes) -> bool:
+        """Whether the bytes say that there is no match, since they lack those of the text."""
+        is_other = self.ignore_case or self.folds or self.is_inverted or self.through_damage
+        is_literal = not is_other and literals.is_literal(self.expression, self.is_text)
+        return is_literal and not literals.LITERALS.may_be_in(gate, encoding, self.expression, content)
+
+    def _find(self, gate: Gate, label: str, document: Document, text: str) -> Tuple[List[Range], Set[Range]]:
+        """Where matches begin and end in the text of a document, and which of them were found across damage."""
+        expression = self.pattern()
+        found = self._places(expression, text)
+        cut = self.through_damage and document.stat()["errors"]
+        more = across(gate, label, document, text, expression, found) if cut else []
+        return sorted(found + more), set(more)
 
     def _places(self, expression: "Pattern[str]", text: str) -> List[Range]:
         """Where matches begin and end, or lines without any."""
@@ -126,12 +189,11 @@ class Search(work.Job):
             found = [folded.origin(*it) for it in _spans(expression, folded.text)]
         else:
             found = _spans(expression, text)
-        if self.is_inverted:
-            found = without(lines_in(text), found)
-        return found if self.most is None else within(found, text, self.most)
+        return without(lines_in(text), found) if self.is_inverted else found
 
     def _matches(self, document: Document, text: str, found: Sequence[Range], across: Set[Range]) -> List[Match]:
-        """The matches at these places of the text, in order."""
+        """The matches at these places of the text, in order, of no more lines than are wanted."""
+        found = found if self.most is None else within(found, text, self.most)
         numbers = LinesAt(text)
         lines = lines_in(text) if self.above or self.below else []
         # (an empty line has no character of its own)
@@ -151,6 +213,12 @@ class Search(work.Job):
                     for first, last in ((line - 1 - self.above, line - 1), (behind, behind + self.below)))
             made.append(match)
         return made
+
+
+def _offset(document: Document, at: int, length: int) -> int:
+    """The code points before a byte of a document of this length, which may be its end."""
+    offset: int = length if at >= len(document.bytes) else document.place(at)["utf32"]
+    return offset
 
 
 def _spans(expression: "Pattern[str]", text: str) -> List[Range]:

@@ -1,8 +1,9 @@
 """Files that are too large for a document of `gate`, converted by its command `convert`, in constant memory."""
+import json
 import os
 import subprocess
 import tempfile
-from typing import List, NamedTuple
+from typing import Any, Dict, List, NamedTuple
 
 from legacy.finding import Found
 from legacy.work.reading import Refusal
@@ -28,6 +29,19 @@ def convert(found: Found, how: Conversion, source: int, target: int) -> None:
         status = subprocess.run(_arguments(found, how), stdin=source, stdout=target, stderr=said).returncode
         said.seek(0)
         _look_at(status, said.read())
+
+
+def check(found: Found, label: str, source: int) -> Dict[str, Any]:
+    """What `gate check` says of the file with the descriptor `source`, starting at its first byte."""
+    os.lseek(source, 0, os.SEEK_SET)
+    labels = ["--labels", str(found.labels)] if found.labels else []
+    words = [found.gate, "check", "--indexes", str(found.indexes), *labels, "--from", label, "--errors", "1"]
+    ran = subprocess.run(words, stdin=source, stdout=subprocess.PIPE, stderr=subprocess.PIPE)
+    # (with errors the status is 1, as if it failed, but a failure says so)
+    if ran.stderr or not ran.stdout:
+        _look_at(ran.returncode or 1, ran.stderr)
+    row: Dict[str, Any] = json.loads(ran.stdout)
+    return row
 
 
 def look_for_errors(found: Found, label: str, keep_mark: bool, source: int) -> None:

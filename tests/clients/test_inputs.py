@@ -1,4 +1,5 @@
 """What comes in besides trees: standard input, lists of files, and the members of archives."""
+import base64
 import bz2
 import gzip
 import io
@@ -15,7 +16,7 @@ import zipfile
 from archives import Folder, settings
 from checkout import BUILT, CLIENTS, INDEXES, PROGRAM
 from legacy.check import check
-from legacy.work import members
+from legacy.work import cuts, reading
 from legacy.work.walk import walk
 
 A = b"A\xff\x82\xa0\n"
@@ -40,10 +41,10 @@ none
 """
 
 
-def tar(mode):
+def tar(mode, a=A):
     made = io.BytesIO()
     with tarfile.open(fileobj=made, mode=mode) as archive:
-        for name, content in ("in/a.txt", A), ("b", b"x"):
+        for name, content in ("in/a.txt", a), ("b", b"x"):
             member = tarfile.TarInfo(name)
             member.size = len(content)
             archive.addfile(member, io.BytesIO(content))
@@ -73,8 +74,8 @@ class Inputs(Folder):
         state = str(self.folder / "state")
         for given, status in (A, 1), (b"a", 0):
             self.assertEqual(self.run_legacy("check", "-", "--default", "shift_jis", "--resume", state, given=given)[2], status)
-        printed, _, status = self.run_legacy("check", "-", "--default", "shift_jis", given=b"a" * 16_777_217)
-        self.assertEqual((printed, status), ("-: not checked: more than 16777216 bytes\n", 2))
+        printed, _, status = self.run_legacy("check", "-", "--default", "shift_jis", given=b"a" * 17_000_000 + A)
+        self.assertEqual((printed, status), (f"-:1:17000002: bytes 17000001 to 17000002: ff: {'a' * 19}A\ufffd\u3042\n", 1))
 
     def test_a_filter(self):
         words = ["convert", "--to", "utf-8", "--default", "shift_jis", "-", "-"]
@@ -141,10 +142,17 @@ class Inputs(Folder):
         self.assertEqual(found, [
             ("a.eml/2", *one), ("a.eml/3", *other), ("b.mbox/1/2", *one), ("b.mbox/1/3", *other), ("b.mbox/2/2", *one), ("b.mbox/2/3", *other)])
 
-    def test_a_member_that_is_too_large_is_not_held(self):
-        with unittest.mock.patch.object(members, "LARGEST", 3):
-            found = list(members.members(self.file("a.txt.gz", gzip.compress(b"a" * 100_000))))
-        self.assertEqual([(it.name, it.content, it.fault) for it in found], [("a.txt", b"", "more than 3 bytes")])
+    def test_a_long_member_is_looked_at_by_parts(self):
+        content = b"ab\n" * 1000 + A
+        mail = MAIL.replace(b"gqD/", base64.encodebytes(content))
+        for name, made in ("a.txt.gz", gzip.compress(content)), ("b.tar", tar("w", content)), ("c.eml", mail):
+            self.file(f"in/{name}", made)
+        known = list(check([str(self.folder / "in")], settings(encoding=[("*.txt", "shift_jis")], members=True)))
+        with unittest.mock.patch.object(reading, "WHOLE", 40), unittest.mock.patch.object(cuts, "PART", 500):
+            found = list(check([str(self.folder / "in")], settings(encoding=[("*.txt", "shift_jis")], members=True)))
+        self.assertEqual([it.errors for it in found if it.label], [1, 1, 0, 0, 1])
+        self.assertEqual([it.places for it in found], [it.places for it in known])
+        self.assertEqual([it.size for it in found if it.label], [it.size for it in known if it.label])
 
 
 if __name__ == "__main__":

@@ -9,11 +9,11 @@ from typing import TYPE_CHECKING
 
 if TYPE_CHECKING:
     from legacy.work.reading import LARGEST, Item, Program, Refusal, read, refusals, time_limit
-    from legacy.work.rows import DONE, FOUND, PASSED, REFUSED, Job, Row
+    from legacy.work.rows import DONE, FOUND, PASSED, REFUSED, Before, Job, PartRow, Row
     from legacy.work.running import Settings, add_fewer_words, add_input_words, add_words, run, settings_from
 
 __all__ = [
-    "DONE", "FOUND", "LARGEST", "PASSED", "REFUSED", "Item", "Job", "Program", "Refusal", "Row", "Settings", "add_fewer_words",
+    "DONE", "FOUND", "LARGEST", "PASSED", "REFUSED", "Before", "Item", "Job", "PartRow", "Program", "Refusal", "Row", "Settings", "add_fewer_words",
     "add_input_words", "add_words", "read", "refusals", "run", "settings_from", "time_limit"]
 
 

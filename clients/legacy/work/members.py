@@ -3,15 +3,15 @@ its part names. Nothing is unpacked onto a disk."""
 import bz2
 import email
 import gzip
+import io
 import lzma
 import os
-import re
 import tarfile
 import zipfile
 import zlib
-from typing import IO, Any, Callable, Dict, Iterator, NamedTuple, Optional
+from typing import IO, Any, Callable, Dict, Iterator, List, NamedTuple, Optional
 
-from legacy.work.reading import LARGEST
+from legacy.work import reading
 from legacy.work.walk import reason
 
 # How names of archives end.
@@ -22,17 +22,17 @@ MAIL, MBOX = ".eml", ".mbox"
 NAMES = (*TARS, ".zip", *STREAMS, MAIL, MBOX)
 # What a module says of an archive that is damaged, or that it can't read, such as one with a password.
 FAULTS = (tarfile.TarError, zipfile.BadZipFile, zlib.error, lzma.LZMAError, EOFError, RuntimeError, NotImplementedError, ValueError)
-# How a message begins in an mbox.
-FROM = re.compile(rb"(?:\A|(?<=\n\n)|(?<=\n\r\n))From [^\n]*\n")
 
 
 class Member(NamedTuple):
-    """A member by its name: its bytes, or why it has none, and the encoding that is said of it, if any is."""
+    """A member by its name: its bytes, or why it has none, and the encoding that is said of it, if any is. A long one has its
+    first bytes, and `rest`, from which the others are read before the next member is asked for."""
 
     name: str
     content: bytes
     fault: str = ""
     charset: Optional[str] = None
+    rest: Optional[IO[bytes]] = None
 
 
 def is_archive(name: str) -> bool:
@@ -51,7 +51,7 @@ def members(path: str) -> Iterator[Member]:
             elif name.endswith(".zip"):
                 yield from _of_zip(file)
             elif name.endswith((MAIL, MBOX)):
-                yield from _of_mail(file.read(), name.endswith(MBOX))
+                yield from _of_mail(file, name.endswith(MBOX))
             else:
                 inner, end = os.path.splitext(os.path.basename(path))
                 yield _read_member(inner, STREAMS[end.lower()](file))
@@ -62,9 +62,9 @@ def members(path: str) -> Iterator[Member]:
 
 
 def _read_member(name: str, file: Optional[IO[bytes]]) -> Member:
-    """A member of what a file has, if that isn't too much."""
-    content = file.read(LARGEST + 1) if file else b""
-    return Member(name, b"", f"more than {LARGEST} bytes") if len(content) > LARGEST else Member(name, content)
+    """A member of what a file has; only the first bytes of a long one are read."""
+    content = file.read(reading.WHOLE + 1) if file else b""
+    return Member(name, content, rest=file if len(content) > reading.WHOLE else None)
 
 
 def _of_tar(file: IO[bytes]) -> Iterator[Member]:
@@ -82,13 +82,29 @@ def _of_zip(file: IO[bytes]) -> Iterator[Member]:
                     yield _read_member(it.filename, inner)
 
 
-def _of_mail(content: bytes, is_mbox: bool) -> Iterator[Member]:
+def _messages(file: IO[bytes]) -> Iterator[bytes]:
+    """The messages of an mbox, each of which begins with a line From that follows an empty one."""
+    begun: List[bytes] = []
+    is_begun, is_behind_empty = False, True
+    for line in file:
+        if is_behind_empty and line.startswith(b"From "):
+            if is_begun:
+                yield b"".join(begun)
+            begun, is_begun = [], True
+        else:
+            begun.append(line)
+        is_behind_empty = not line.strip(b"\r\n")
+    if is_begun:
+        yield b"".join(begun)
+
+
+def _of_mail(file: IO[bytes], is_mbox: bool) -> Iterator[Member]:
     """The texts of each message, by the numbers of the message and of the part."""
-    messages = FROM.split(content)[1:] if is_mbox else [content]
-    for number, message in enumerate(messages, 1):
+    for number, message in enumerate(_messages(file) if is_mbox else [file.read()], 1):
         for part, it in enumerate(email.message_from_bytes(message).walk(), 1):
             if it.get_content_maintype() == "text":
                 payload = it.get_payload(decode=True)
                 text = payload if isinstance(payload, bytes) else b""
                 name = f"{number}/{part}" if is_mbox else str(part)
-                yield Member(name, text, "" if len(text) <= LARGEST else f"more than {LARGEST} bytes", it.get_content_charset() or "")
+                rest = io.BytesIO() if len(text) > reading.WHOLE else None
+                yield Member(name, text, charset=it.get_content_charset() or "", rest=rest)

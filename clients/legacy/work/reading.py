@@ -1,19 +1,22 @@
 """How a file is read, and `gate` asked about it: what can't be done is a `Refusal`. It imports little, since git starts it for each
 file."""
 import contextlib
+import io
 import os
 import signal
 import stat
 import sys
-from typing import Callable, Iterator, List, NamedTuple, Optional, TypeVar
+from typing import IO, Callable, Iterator, List, NamedTuple, Optional, TypeVar
 
 from gate import Fault, Gate, Gone
 
 from legacy.finding import Found
+from legacy.work.cuts import Part
 from legacy.work.walk import reason
 
-# The most bytes of a document of `gate`.
+# The most bytes of a document of `gate`, and the most of a file that is looked at as a whole if parts of it will do.
 LARGEST = 16_777_216
+WHOLE = 1 << 22
 
 # What a refusal of `gate` means for a file, where it isn't the job's own.
 FAULTS = {
@@ -25,7 +28,8 @@ Answer = TypeVar("Answer")
 
 class Item(NamedTuple):
     """A file to do a job on: its path, what it was when the tree was walked, and the label that its rule names. It has its bytes
-    if no file has them, for example those of standard input and of an archive's member."""
+    if no file has them, for example those of standard input and of an archive's member. If these are many, it has the first, and
+    `rest`, from which the others are read. If it is a part of a long file, it has that part, and the size is the file's."""
 
     path: str
     size: int
@@ -33,6 +37,8 @@ class Item(NamedTuple):
     label: str
     fault: str = ""
     content: Optional[bytes] = None
+    part: Optional[Part] = None
+    rest: Optional[IO[bytes]] = None
 
 
 class Refusal(Exception):
@@ -119,21 +125,45 @@ def read(item: Item) -> bytes:
         return item.content
     if item.size > LARGEST:
         raise Refusal(f"{item.size} bytes; {LARGEST} are the most")
-    number = os.open(item.path, os.O_RDONLY | os.O_NONBLOCK | os.O_NOCTTY | os.O_CLOEXEC)
-    with open(number, "rb", buffering=0) as file:
-        before = os.fstat(number)
-        if not stat.S_ISREG(before.st_mode):
-            raise Refusal("no file any more")
-        content: bytes = file.read(min(before.st_size, LARGEST) + 1) or b""
-        # (one read is all of it, unless the system gave less)
-        while 0 < len(content) < before.st_size:
-            piece = file.read(before.st_size - len(content))
-            if not piece:
-                break
-            content += piece
-        after = os.fstat(number)
+    with open(open_file(item.path), "rb", buffering=0) as file:
+        before = os.fstat(file.fileno())
+        content = _read_all(file, min(before.st_size, LARGEST) + 1)
+        after = os.fstat(file.fileno())
     if _signature(before) != _signature(after) or len(content) != after.st_size:
         raise Refusal("it changed while it was read")
+    return content
+
+
+def read_part(item: Item, part: Part) -> bytes:
+    """The bytes to look at of a part of a file, with its head, unless the file isn't any more what it was when the tree was walked."""
+    if item.content is not None:
+        return part.head + item.content
+    with open(open_file(item.path), "rb", buffering=0) as file:
+        file.seek(part.start)
+        content = _read_all(file, part.stop - part.start)
+        after = os.fstat(file.fileno())
+    if (after.st_size, after.st_mtime_ns) != (item.size, item.time) or len(content) != part.stop - part.start:
+        raise Refusal("it changed while it was read")
+    return part.head + content
+
+
+def open_file(path: str) -> int:
+    """A descriptor of a file. Raises `Refusal` if it isn't one any more."""
+    number = os.open(path, os.O_RDONLY | os.O_NONBLOCK | os.O_NOCTTY | os.O_CLOEXEC)
+    if stat.S_ISREG(os.fstat(number).st_mode):
+        return number
+    os.close(number)
+    raise Refusal("no file any more")
+
+
+def _read_all(file: io.FileIO, size: int) -> bytes:
+    """So many bytes, or what there is. (One read is all of it, unless the system gives less.)"""
+    content: bytes = file.read(size) or b""
+    while 0 < len(content) < size:
+        piece = file.read(size - len(content))
+        if not piece:
+            break
+        content += piece
     return content
 
 

@@ -11,7 +11,8 @@ from gate import Gate
 from legacy.finding import Found
 from legacy.work import reading
 from legacy.work.children import CHILD
-from legacy.work.reading import Item, Program, Refusal, read, refusals
+from legacy.work.cuts import Part
+from legacy.work.reading import Item, Program, Refusal, read, read_part, refusals
 from legacy.work.walk import UNFOLLOWED, reason
 
 # The outcome of a file. It was looked at and there is nothing to say, or something was found. Or it isn't text, since
@@ -39,6 +40,10 @@ class Row:
         # (what a row has in lists is dataclasses too, and may be thousands of them)
         return json.dumps({**vars(self), **more}, default=vars)
 
+    def weight(self) -> int:
+        """How much it takes of memory: one, and what it lists."""
+        return 1 + sum(len(it) for it in vars(self).values() if isinstance(it, list))
+
     @classmethod
     def from_json(cls: Type[Restored], line: str) -> Restored:
         """The row that a line of JSON has."""
@@ -47,16 +52,48 @@ class Row:
         return cls(**members)
 
 
+@dataclasses.dataclass
+class PartRow(Row):
+    """The row of a part of a long file: what the job made of it, its line ends, and the code points after the last of them, or all."""
+
+    made: Optional[Row] = None
+    lines: int = 0
+    tail: int = 0
+
+    def weight(self) -> int:
+        return self.made.weight() if self.made else 1
+
+
+class Before(NamedTuple):
+    """The line ends before a part of a file, and the code points of the last line there."""
+
+    lines: int = 0
+    tail: int = 0
+
+
 class Job:
     """What is done on each file. It goes to other processes and machines, so it is a dataclass of plain values."""
 
     rows: ClassVar[Type[Row]] = Row
     # Whether the job may have to be interrupted at a file, for example by `time_limit`.
     is_bounded: ClassVar[bool] = False
+    # How many bytes of the parts beside a part the job looks at too, or None if it looks at whole files alone.
+    beside: ClassVar[Optional[int]] = None
 
     def row(self, gate: Gate, item: Item, content: bytes) -> Row:
         """The row of a file. Raises `Refusal` or `gate.Fault` if there is none."""
         raise NotImplementedError
+
+    def part_row(self, gate: Gate, item: Item, content: bytes) -> "PartRow":
+        """The row of a part of a long file, if the job looks at parts. The content begins with the part's head."""
+        raise NotImplementedError
+
+    def join(self, whole: Row, part: Row, before: "Before") -> None:
+        """Adds the row of a part to that of the parts before it."""
+        raise NotImplementedError
+
+    def finish(self, whole: Row) -> None:
+        """Finishes a row that all parts were added to. Raises `Refusal` if there is none."""
 
     def row_without_rule(self, found: Found, item: Item) -> Optional[Row]:
         """The row of a file whose encoding no rule names, or that isn't a file, if the job does something with it. Raises
@@ -64,7 +101,7 @@ class Job:
         return None
 
     def stream_row(self, found: Found, item: Item) -> Optional[Row]:
-        """The row of a file that is too large for a document, if the job does without one. Raises `Refusal` if it can't."""
+        """The row of a long file, if the job does without a document of it. Raises `Refusal` if it can't."""
         return None
 
     def sync(self, rows: Sequence[Row]) -> None:
@@ -97,6 +134,8 @@ class Task(NamedTuple):
         return self._refusal(item, "the process that looked at it ended")
 
     def _row(self, item: Item) -> Row:
+        if item.part:
+            return self._part_row(item, item.part)
         if item.fault or not item.label:
             try:
                 with refusals(item.label):
@@ -110,7 +149,8 @@ class Task(NamedTuple):
             return made
         try:
             with refusals(item.label):
-                row = self.job.stream_row(self.found, item) if item.content is None and item.size > reading.LARGEST else None
+                is_long = item.content is None and item.size > min(reading.WHOLE, reading.LARGEST)
+                row = self.job.stream_row(self.found, item) if is_long else None
                 if row:
                     return row
                 content = read(item)
@@ -118,7 +158,19 @@ class Task(NamedTuple):
         except Refusal as fault:
             return self._refusal(item, str(fault))
 
+    def _part_row(self, item: Item, part: Part) -> Row:
+        try:
+            with refusals(item.label):
+                if item.fault:
+                    raise Refusal(item.fault)
+                content = read_part(item, part)
+                return WORKER.program(self.found).ask(lambda gate: self.job.part_row(gate, item, content))
+        except Refusal as fault:
+            return self._refusal(item, str(fault))
+
     def _refusal(self, item: Item, why: str) -> Row:
+        if item.part:
+            return PartRow(item.path, item.size, item.label, REFUSED, why)
         return self.job.rows(item.path, item.size, item.label, REFUSED, why)
 
 

@@ -7,19 +7,20 @@ import functools
 import os
 import sys
 import time
-from typing import TYPE_CHECKING, Any, Callable, Deque, Iterable, Iterator, List, Optional, Sequence, Tuple
+from typing import TYPE_CHECKING, Any, Callable, Deque, Iterable, Iterator, List, NamedTuple, Optional, Sequence, Tuple
 
 from legacy import finding, rules
 from legacy.finding import Found, Missing
 from legacy.rules.names import encoding_of
 from legacy.terminals import quote_path
-from legacy.work import members
-from legacy.work.reading import LARGEST, Item
-from legacy.work.rows import Job, Row, Task
+from legacy.work import members, parts, reading
+from legacy.work.reading import Item
+from legacy.work.rows import Job, PartRow, Row, Task
 from legacy.work.walk import STDIN, Entry, entry_of, walk
 
 if TYPE_CHECKING:
     from legacy.work.pools import Pool
+    from legacy.work.state import State
 
 # The most files of a list that goes to a process, and the most bytes, except the last file's.
 FILES, BYTES = 16, 1 << 20
@@ -158,24 +159,64 @@ def run(job: Job, trees: Sequence[str], settings: Settings) -> Iterator[Row]:
     with contextlib.ExitStack() as kept:
         state = kept.enter_context(State(settings.state, task, trees, settings.force)) if settings.state else None
         done = kept.enter_context(progress.show_progress([*trees, *settings.files], settings.follow, settings.ignores)) if settings.progress else lambda _: None
-        under_way: Deque[Tuple[List[Item], List[Optional[Row]]]] = collections.deque()
-
-        def requests() -> Iterator[List[Item]]:
-            for items in _lists(_items(_entries(trees, settings), settings)):
-                known = [state.unchanged_row(it) if state else None for it in items]
-                under_way.append((items, known))
-                yield [it for it, row in zip(items, known) if row is None]
-
-        results = kept.enter_context(contextlib.closing(settings.pool()(task, requests())))
-        for made in results:
-            items, known = under_way.popleft()
-            missing = iter(made)
-            rows = [row or next(missing) for row in known]
-            if state:
-                state.keep([it for it, row in zip(items, known) if row is None], made)
-            for row in rows:
+        under_way = UnderWay(task, state)
+        lists = under_way.lists(_items(_entries(trees, settings), settings))
+        for made in kept.enter_context(contextlib.closing(settings.pool()(task, lists))):
+            for row in under_way.rows(made):
                 done(row.size)
                 yield row
+
+
+class Sent(NamedTuple):
+    """A list of files, with the rows that a state has of some of them; or a part of a long file, and that file."""
+
+    items: List[Item]
+    known: List[Optional[Row]]
+    of: Optional[Item] = None
+
+
+class UnderWay:
+    """The lists of a run, in order, whose rows come back in the same order."""
+
+    def __init__(self, task: Task, state: "Optional[State]"):
+        self._task, self._state = task, state
+        self._sent: Deque[Sent] = collections.deque()
+        self._whole: Optional[parts.Whole] = None
+
+    def lists(self, items: Iterable[Item]) -> Iterator[List[Item]]:
+        """The lists, and each part of a long file in a list of its own."""
+        beside = self._task.job.beside
+        for listed in _lists(items):
+            known = [self._state.unchanged_row(it) if self._state else None for it in listed]
+            long = listed.pop() if beside is not None and not known[-1] and parts.is_long(listed[-1]) else None
+            if listed:
+                self._sent.append(Sent(listed, known[: len(listed)]))
+                yield [it for it, row in zip(listed, known) if row is None]
+            for part in parts.items_of(long, self._task.found, beside or 0) if long else ():
+                self._sent.append(Sent([part], [None], long))
+                yield [part]
+
+    def rows(self, made: List[Row]) -> Iterator[Row]:
+        """The rows of files of which the first list, whose rows are given, is the last."""
+        sent = self._sent.popleft()
+        if sent.of:
+            yield from self._part(sent.of, sent.items[0], made[0])
+            return
+        missing = iter(made)
+        rows = [row or next(missing) for row in sent.known]
+        if self._state:
+            self._state.keep([it for it, row in zip(sent.items, sent.known) if row is None], made)
+        yield from rows
+
+    def _part(self, of: Item, part: Item, made: Row) -> Iterator[Row]:
+        assert isinstance(made, PartRow) and part.part
+        self._whole = self._whole or parts.Whole(self._task.job, of)
+        self._whole.add(made, part.part.end)
+        if part.part.is_last:
+            row, self._whole = self._whole.row(), None
+            if self._state:
+                self._state.keep([of], [row])
+            yield row
 
 
 def _entries(trees: Sequence[str], settings: Settings) -> Iterator[Entry]:
@@ -211,9 +252,14 @@ def _items(entries: Iterable[Entry], settings: Settings) -> Iterator[Item]:
 
 def _standard_input(label: str) -> Item:
     """Standard input, which no later run has again."""
-    content = sys.stdin.buffer.read(LARGEST + 1)
-    fault = f"more than {LARGEST} bytes" if len(content) > LARGEST else ""
-    return Item(STDIN, len(content), time.time_ns(), label, fault, content[:LARGEST])
+    content = sys.stdin.buffer.read(reading.WHOLE + 1)
+    rest = sys.stdin.buffer if len(content) > reading.WHOLE else None
+    return _drop_unruled(Item(STDIN, len(content), time.time_ns(), label, "", content, rest=rest))
+
+
+def _drop_unruled(item: Item) -> Item:
+    """An item that has its bytes, without them if no rule names its encoding."""
+    return item if item.label else item._replace(content=b"", rest=None)
 
 
 def _members(entry: Entry, settings: Settings, label_of: Callable[[Entry, str], str]) -> Iterator[Item]:
@@ -225,7 +271,7 @@ def _members(entry: Entry, settings: Settings, label_of: Callable[[Entry, str], 
             yield Item(path, len(it.content), entry.time, "", it.fault)
             continue
         said = encoding_of(it.charset) if it.charset else None
-        yield Item(path, len(it.content), entry.time, said.label if said else label_of(entry, inside), "", it.content)
+        yield _drop_unruled(Item(path, len(it.content), entry.time, said.label if said else label_of(entry, inside), "", it.content, rest=it.rest))
 
 
 def _lists(items: Iterable[Item]) -> Iterator[List[Item]]:
@@ -234,7 +280,8 @@ def _lists(items: Iterable[Item]) -> Iterator[List[Item]]:
     for it in items:
         begun.append(it)
         size += it.size
-        if len(begun) == FILES or size >= BYTES:
+        # (a long file is the last of its list; what follows in an archive isn't read before it)
+        if len(begun) == FILES or size >= BYTES or parts.is_long(it):
             yield begun
             begun, size = [], 0
     if begun:

@@ -78,7 +78,7 @@ class Part:
     def weight(self) -> int:
         """How many rows it has, with what they list."""
         if self._weight is None:
-            self._weight = sum(1 + sum(len(it) for it in vars(row).values() if isinstance(it, list)) for row in self.ready_rows() or ())
+            self._weight = sum(row.weight() for row in self.ready_rows() or ())
         return self._weight
 
 

@@ -5,7 +5,7 @@ import hashlib
 import io
 import os
 import stat
-from typing import Iterable, Iterator, Optional, Set, Tuple, Union
+from typing import Callable, Iterable, Iterator, Optional, Set, Tuple, Union
 
 from legacy.terminals import quote_path
 from legacy.work.drafts import Draft, Kept, draft, mode_for, take_over
@@ -135,15 +135,20 @@ def sync_names(paths: Iterable[str], top: str) -> None:
 
 
 def replace(path: str, content: bytes, known: os.stat_result) -> None:
-    """Replaces a file's bytes; its mode, owner and extended attributes stay. Raises `Refusal` if it isn't any more what is
-    known of it, or has an owner that it can't keep. It does so too if the file has several names, of which one alone would
-    get the new bytes."""
+    """Replaces a file's bytes, as `rewrite` does."""
+    has_holes = known.st_blocks * 512 < known.st_size
+    rewrite(path, lambda made: (made.write_with_holes if has_holes else made.write)(content), known)
+
+
+def rewrite(path: str, write: Callable[[Draft], None], known: os.stat_result) -> None:
+    """Replaces a file's bytes by those that are written to a draft; its mode, owner and extended attributes stay. Raises `Refusal`
+    if it isn't any more what is known of it, or has an owner that it can't keep. It does so too if the file has several names,
+    of which one alone would get the new bytes."""
     path = os.path.realpath(path)
     if known.st_nlink > 1:
         raise Refusal(f"it has {known.st_nlink} names, of which one alone would be mended")
     with draft(path) as made:
-        has_holes = known.st_blocks * 512 < known.st_size
-        (made.write_with_holes if has_holes else made.write)(content)
+        write(made)
         lost = [name for name, is_kept in zip(("owner", "group", "access list"), take_over(made.number, path, known)) if not is_kept]
         if lost:
             raise Refusal(f"its {lost[0]} can't be kept")
