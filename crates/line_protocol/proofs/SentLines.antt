@@ -1,6 +1,7 @@
 -- Lines that a serializer writes, member by member.
 use Rattle.std.proofs.Common.{◌≡◌, ℕ, suc, false, List, [], ◌∷◌, ◌++◌, length, refl, ap, ◌∙◌}
-use Rattle.line_protocol.proofs.Prelude.{Data, items_len, items_of, SendsValue, IsLineOf, has_float, members_have_float, members_len, line_of, MemberList, members_of, content_data}
+use Rattle.line_protocol.proofs.Prelude.{Data, items_len, items_of, SendsValue, IsLineOf, has_float, members_have_float, members_len, line_of}
+use Rattle.line_protocol.proofs.Prelude.{MemberList, members_of, content_data}
 use Rattle.line_protocol.specs.declared.reply_line.members.Content.{Content}
 use Rattle.line_protocol.specs.declared.reply_line.members.Content.TheVariants.{Number}
 use Rattle.line_protocol.specs.Values.{encoding_data, document_data}

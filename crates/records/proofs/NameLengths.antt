@@ -6,7 +6,8 @@ use Rattle.std.specs.{Ordering.eq_by_cmp, Ordering.nat_cmp, Option.IsSome, Optio
 use Rattle.enc_names.specs.declared.setting.Setting.{Setting}
 use Rattle.desk.specs.{Effects.Move, Effects.Stays, Effects.Puts, Effects.Goes, Effects.base64_bytes, Desk.Office, Desk.effect_of, Desk.moved}
 use Rattle.desk.specs.{Commands.Asked, Commands.asked_of, Documents.Entry, Documents.Names}
-use Rattle.line_protocol.specs.{Fields.◌>>=◌, Fields.need, Fields.as_name, Fields.max_name_len, Fields.text_at, Fields.on_document, Fields.Ask, Ops.DeskOp, Ops.Op, Ops.desk_ops, Ops.ops}
+use Rattle.line_protocol.specs.{Fields.◌>>=◌, Fields.need, Fields.as_name, Fields.max_name_len, Fields.text_at, Fields.on_document, Fields.Ask}
+use Rattle.line_protocol.specs.Ops.{DeskOp, Op, desk_ops, ops}
 use Rattle.desk.specs.declared.overview.Overview.{Overview}
 use Rattle.line_protocol.specs.{declared.request.refusal.Refusal.Refusal, declared.request.field.Field.Field, Values.Data}
 use Rattle.line_protocol.specs.Request.{Request, AtDocument, OfDesk, with_id, command_in, overview_in, command_of, request_of, request_of_line, json_of_line}

@@ -26,7 +26,8 @@ use Rattle.streams.specs.Conversions.{Converting, ConvertsPart, Ends, Fails, Hol
 use Rattle.streams.specs.Conversions.{StopsWithin}
 use Rattle.streams.specs.Conversions.{decided, encode_mode, encoded_items, is_strict, part_of, whole, with_out}
 use Rattle.streams.specs.Gathering.{kept, stops}
-use Rattle.streams.specs.Streams.{Begins, BeginsNot, BeginsWith, BrokeOff, Converted, Converts, GaveOut, HasError, LacksCodePoint, RunsOut, Starts, StopsAt, StopsBy}
+use Rattle.streams.specs.Streams.{Begins, BeginsNot, BeginsWith, BrokeOff, Converted, Converts, GaveOut, HasError, LacksCodePoint, RunsOut, Starts}
+use Rattle.streams.specs.Streams.{StopsAt, StopsBy}
 use Rattle.streams.specs.Streams.{Whatever, front_encoded, text_of}
 use Rattle.streams.proofs.Continuing.{Joins}
 use Rattle.streams.proofs.Deciding.{Ahead, Decodes, Runs, ahead, ahead-kept, ahead-stops, ahead-text, before-is, fatal-is, fatal-mode, items_at}

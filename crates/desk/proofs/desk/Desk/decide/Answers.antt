@@ -5,7 +5,8 @@ pub returns-in-Open : goal.returns-in-Open
 returns-in-Open c = rw c.in-Open.is c.open.ensures
 
 pub returns-in-Close : goal.returns-in-Close
-returns-in-Close c = rw (c.in-Close.is, ← c.self.view_is) (record { step = c.close.ensures.step; indexes = c.close.ensures.indexes; labels = refl; turn = refl })
+returns-in-Close c =
+    rw (c.in-Close.is, ← c.self.view_is) (record { step = c.close.ensures.step; indexes = c.close.ensures.indexes; labels = refl; turn = refl })
 
 pub returns-in-Splice : goal.returns-in-Splice
 returns-in-Splice c = rw c.in-Splice.is c.splice.ensures
