@@ -18,7 +18,7 @@ REMEDIES = {
     "gate: label file: CAUSE": "Fetch it again with `gate-standard`.",
     "gate: cannot read NAME": "Check the path and its mode. For `compact`, DIR must be a folder.",
     "gate: trace line N": "Correct that line.",
-    "gate: record line N": "Restore a backup, or use the index files with which the record was written.",
+    "gate: record line N": "Use the index files with which the record was written, or restore a backup.",
     "gate: cannot record in NAME":
         "Check its mode and its folder. It must be a regular file, for `compact` without another hard link. A file NAME.compacting must be a record.",
     "gate: another gate records in NAME": "Stop that server, or use another file.",

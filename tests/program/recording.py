@@ -1,8 +1,6 @@
 """The program with a record, as tests start and stop it, and clients that edit until they are to rest."""
-import base64
 import contextlib
 import functools
-import hashlib
 import multiprocessing
 import os
 import pathlib
@@ -271,45 +269,12 @@ def first_line():
         return record.read_bytes().splitlines(keepends=True)[0]
 
 
-def former_line():
-    """The first line of a record of version 1, whose lines have no sums."""
-    return first_line().replace(b"# gate record 2 ", b"# gate record 1 ")
-
-
-def last_sum(content):
-    """The last sum of a record: the SHA-256 of its first line, or what its last comment says."""
-    first, *lines = content.splitlines()
-    sums = [line for line in lines if line.startswith(b"#")]
-    return bytes.fromhex(sums[-1].decode().split()[2]) if sums else hashlib.sha256(first + b"\n").digest()
-
-
-def with_sums(content, *writes):
-    """A record, and writes that follow in it, each with the line of its sum."""
-    was = last_sum(content)
-    for write in writes:
-        was = hashlib.sha256(was + write).digest()
-        content += write + b"# sum %b\n" % was.hex().encode()
-    return content
-
-
-def without_sums(content):
-    """The lines of a record with line feeds, except its first one and those of sums."""
-    return b"".join(line for line in content.splitlines(keepends=True) if not line.startswith(b"#"))
-
-
-# The bytes of a sum's line.
-SUM_LINE = len(b"# sum \n") + 64
-
-
 def lengthen(record, length):
-    """Makes a record this many bytes long, by an event that is refused, and empty lines."""
-    content = record.read_bytes() if record.exists() else b""
-    content = content or first_line()
-    room = length - len(content) - SUM_LINE - len(b"bytes 14 \n")
-    line = b"bytes 14 %b\n" % base64.b64encode(b"x" * (room // 4 * 3))
-    content = with_sums(content, line + b"\n" * (room % 4))
-    assert len(content) == length, (len(content), length)
-    record.write_bytes(content)
+    """Makes a record this many bytes long, by a line that says nothing."""
+    with open(record, "ab") as file:
+        if not file.tell():
+            file.write(first_line())
+        file.write(b"#" * (length - file.tell() - 1) + b"\n")
 
 
 def a_small_disk(test, folder, room=DISK):

@@ -15,7 +15,7 @@ import unittest
 
 from program import PROGRAM, SMALL, with_first_stack
 from base import LIMIT, base64_of
-from recording import DISK, Kept, a_small_disk, first_line, former_line, lengthen, random_bytes, with_sums, without_sums
+from recording import DISK, Kept, a_small_disk, first_line, lengthen, random_bytes
 from serving import Serving, line
 
 # The most bytes of a record that is resumed as it is, and how many times as long as compacted a longer one is at most that is too.
@@ -61,9 +61,8 @@ def head_of(content):
     """The documents of a record that is compacted, by their names: encoding, what becomes of a mark, revision and bytes. There
     is nothing else in it but its first line."""
     found, parts = {}, b""
-    first = content.splitlines()[0]
-    lines = without_sums(content.decode().encode()).splitlines()
-    assert re.fullmatch(rb"# gate record 2 indexes [0-9a-f]{64} exceptions [0-9a-f]{64} labels [0-9a-f]{64}", first), first
+    first, *lines = content.decode().encode().splitlines()
+    assert re.fullmatch(rb"# gate record 1 indexes [0-9a-f]{64} exceptions [0-9a-f]{64} labels [0-9a-f]{64}", first), first
     for word, *rest in (it.split(b" ") for it in lines):
         if word == b"part":
             parts += base64.b64decode(rest[0], validate=True)
@@ -198,12 +197,11 @@ class Records(Compacted):
 
     def test_a_last_line_that_is_torn_is_dropped(self):
         whole = self.record.read_bytes()
-        compacted, end = {}, 0
+        compacted = {}
         for cut in range(len(first_line()), len(whole) + 1):
-            is_end = whole[:cut].endswith(b"\n") and whole[:cut].splitlines()[-1].startswith(b"#")
-            end = cut if is_end else end
+            end = whole[:cut].rfind(b"\n") + 1
             self.record.write_bytes(whole[:cut])
-            if is_end:
+            if cut == end:
                 compacted[end] = self.compact()
             elif cut % 7 == 0:
                 self.assertEqual(self.compact(), compacted[end])
@@ -211,15 +209,13 @@ class Records(Compacted):
 
     def test_a_connection_that_is_open_is_closed_and_its_line_dropped(self):
         wanted = self.compact()
-        events = b"open 3\n", b"bytes 3 %b\n" % base64.b64encode(b'{"id":1,"op":"close","doc":"d"}')
-        self.record.write_bytes(with_sums(wanted, *events))
+        self.record.write_bytes(wanted + b"open 3\nbytes 3 %b\n" % base64.b64encode(b'{"id":1,"op":"close","doc":"d"}'))
         self.assertEqual(self.compact(), wanted)
         self.recorded("--resume", b"")
-        self.assertEqual(self.record.read_bytes(), with_sums(wanted, b"open 0\n", b"close 0\n"))
+        self.assertEqual(self.record.read_bytes(), wanted + b"open 0\nclose 0\n")
 
     def test_a_record_of_nothing(self):
-        nothing = with_sums(first_line(), b"open 0\nclose 0\n"), with_sums(first_line(), b"\n\n"), first_line() + b"open 0\nclose 0\n"
-        for content in b"", first_line(), *nothing, former_line() + b"# nothing\n\n":
+        for content in b"", first_line(), first_line() + b"open 0\nclose 0\n", first_line() + b"# nothing\n\n":
             self.record.write_bytes(content)
             self.assertEqual(self.compact(), first_line())
 
@@ -229,9 +225,8 @@ class Records(Compacted):
             (b"adopt ZA== UTF-8 sniff -1\n", 2), (b"adopt ZA== Big5 sniff 0\nadopt ZQ== none sniff 0\n", 3),
         ]
         for lines, number in rows:
-            for content in former_line() + lines, *[with_sums(first_line(), lines)][b"#" in lines :]:
-                self.record.write_bytes(content)
-                self.unchanged(status=2, error=f"gate: record line {number}\n")
+            self.record.write_bytes(first_line() + lines)
+            self.unchanged(status=2, error=f"gate: record line {number}\n")
 
     def test_a_file_that_cannot_be_had(self):
         for name in self.folder / "none", self.folder, self.record / "none", "/dev/null":
@@ -407,7 +402,7 @@ class Killed(Compacted):
             program.stdin.close()
             now = self.record.read_bytes()
             is_old = now.startswith(first_line() + b"open ")
-            self.assertTrue(now == old.read_bytes() if is_old else now in (wanted, with_sums(wanted, b"open 0\n")))
+            self.assertTrue(now == old.read_bytes() if is_old else now in (wanted, wanted + b"open 0\n"))
             seen["as it was" if is_old else "compacted"] += 1
             seen["begun"] += beside.exists()
             kept.unlink(missing_ok=True)
@@ -528,11 +523,11 @@ class Resumed(Compacted):
             self.assertEqual((found["rev"], base64.b64decode(found["bytes"])), (rev, content))
 
     def test_a_connection_that_was_open_when_it_was_written(self):
-        self.record.write_bytes(with_sums(first_line(), b"open 0\nopen 3\nbytes 3 %b\n" % base64.b64encode(b'{"id":')))
+        self.record.write_bytes(first_line() + b"open 0\nopen 3\nbytes 3 %b\n" % base64.b64encode(b'{"id":'))
         lengthen(self.record, SHORT + 1)
         replies, is_another = self.resumed(line("stat", doc="d"))
         self.assertEqual((json.loads(replies)["fault"], is_another), ("NoDocument", True))
-        self.assertTrue(without_sums(self.record.read_bytes()).startswith(b"open 0\nbytes 0 "))
+        self.assertTrue(self.record.read_bytes().startswith(first_line() + b"open 0\nbytes 0 "))
 
 
 if __name__ == "__main__":

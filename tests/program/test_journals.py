@@ -13,13 +13,11 @@ import unittest
 
 from program import PROGRAM, SMALL, with_first_stack
 from base import TOP, base64_of
-from recording import Kept, first_line, former_line, random_bytes, recording, with_sums, without_sums
+from recording import Kept, random_bytes, recording
 from serving import Serving, line
 
 # How many random files are given as records; GATE_FILES=5000 sets another number.
 FILES = int(os.environ.get("GATE_FILES", "60"))
-# How many bits of a record are turned, and of how many drawn records one; GATE_BITS=100000 turns each.
-BITS, RECORDS = int(os.environ.get("GATE_BITS", "100")), int(os.environ.get("GATE_BITS", "100")) // 4
 
 OPEN = {"op": "open", "doc": "d", "label": "utf-8", "bytes": "YQ=="}
 SPLICE = {"op": "splice", "doc": "d", "at": 0, "del": 0, "bytes": "Yg=="}
@@ -34,7 +32,7 @@ OLD = b"open 0\nbytes 0 %b\nbytes 0 %b\n" % (
     base64_of(line(**OPEN)).encode(),
     base64_of(line(**SPLICE, rev=0)).encode(),
 )
-HEADER = rb"# gate record 2 indexes [0-9a-f]{64} exceptions [0-9a-f]{64} labels [0-9a-f]{64}\n"
+HEADER = rb"# gate record 1 indexes [0-9a-f]{64} exceptions [0-9a-f]{64} labels [0-9a-f]{64}\n"
 # Files that aren't records.
 FOREIGN = {
     "a line without a line feed": b'{"my":"config"}',
@@ -130,7 +128,9 @@ class Foreign(Files):
         return hashlib.sha256(b"".join(message)).hexdigest()
 
     def test_a_comment_in_the_head_has_any_length(self):
-        self.record.write_bytes(former_line() + b"#" * 7_000_000 + b"\npart YQ==\nadopt ZA== UTF-8 sniff 7\n")
+        self.recorded("--record", b"")
+        first = self.record.read_bytes().splitlines(keepends=True)[0]
+        self.record.write_bytes(first + b"#" * 7_000_000 + b"\npart YQ==\nadopt ZA== UTF-8 sniff 7\n")
         self.assertEqual(self.rev(), 7)
 
     def test_a_first_line_that_was_torn_off(self):
@@ -144,10 +144,9 @@ class Foreign(Files):
                 self.assertEqual((self.rev(), self.record.read_bytes()[: len(first)]), ("NoDocument", first))
 
     def test_another_version(self):
-        for version in b"3", b"0", b"10", b"":
-            self.record.write_bytes(b"# gate record " + version + b" indexes\nopen 0\n")
-            for way in WAYS:
-                self.stays(way, 2, f"gate: {self.record} is a record of another version of gate\n")
+        self.record.write_bytes(b"# gate record 2 indexes\nopen 0\n")
+        for way in WAYS:
+            self.stays(way, 2, f"gate: {self.record} is a record of another version of gate\n")
 
     def test_files_at_random(self):
         rng = random.Random(91)
@@ -258,141 +257,6 @@ class Old(Files):
             self.record.write_bytes(OLD + tail)
             for way in "--resume", "compact":
                 self.stays(way, 2, "gate: record line 4\n", "--old-record")
-
-
-@recording
-class Sums(Files):
-    """Sums in records: what is damaged is refused, and a write that was torn off is dropped."""
-
-    LINES = line(**OPEN) + line(**SPLICE, rev=0) + line("open", doc="e", label="shift_jis", bytes="grA=") + line(**SPLICE, rev=1)
-
-    def setUp(self):
-        super().setUp()
-        self.recorded("--record", self.LINES)
-        self.whole = self.record.read_bytes()
-
-    def found(self):
-        """What the documents are if the record is resumed; the program's status and message if it isn't."""
-        asked = line("source", doc="d", at=0, len=3) + line("source", doc="e", at=0, len=2)
-        status = self.run_with("--resume", lines=asked)
-        return (self.replies, status) if status == (0, "") else (None, status)
-
-    def test_each_write_ends_with_its_sum(self):
-        first, *_ = self.whole.splitlines(keepends=True)
-        writes = without_sums(self.whole).splitlines(keepends=True)
-        self.assertEqual(len(writes), 6)
-        self.assertEqual(self.whole, with_sums(first, *writes))
-        self.recorded("--resume", line(**SPLICE, rev=2))
-        more = without_sums(self.record.read_bytes()).splitlines(keepends=True)[6:]
-        self.assertEqual(self.record.read_bytes(), with_sums(self.whole, *more))
-        self.assertEqual(len(more), 3)
-        self.assertEqual(self.run_with("compact"), (0, ""))
-        parts = without_sums(self.record.read_bytes()).splitlines(keepends=True)
-        self.assertEqual((self.record.read_bytes(), len(parts)), (with_sums(first, *parts), 4))
-
-    def test_a_turned_bit(self):
-        rng = random.Random(6)
-        wanted, _ = self.found()
-        self.record.write_bytes(self.whole)
-        self.assertEqual(self.run_with("compact"), (0, ""))
-        compacted = self.record.read_bytes()
-        for content in self.whole, compacted:
-            bits = range(8 * len(content)) if BITS >= 8 * len(content) else rng.sample(range(8 * len(content)), BITS)
-            for bit in bits:
-                with self.subTest(bit=bit, compacted=content == compacted):
-                    damaged = bytearray(content)
-                    damaged[bit // 8] ^= 1 << bit % 8
-                    self.record.write_bytes(damaged)
-                    replies, (status, error) = self.found()
-                    if status == 0:
-                        self.assertEqual(replies, wanted)
-                        continue
-                    self.assertEqual(self.record.read_bytes(), damaged)
-                    number = content[: bit // 8].count(b"\n") + 1
-                    if number == 1:
-                        self.assertRegex(error, f"^gate: {self.record} (is not a record|is a record of another version|was recorded with other)")
-                    else:
-                        self.assertIn(error, [f"gate: record line {it}\n" for it in range(number, number + 3)])
-
-    def test_bits_of_drawn_records(self):
-        """Records of many edits and connections: a turned bit is found, or a last write that has no sum is dropped."""
-        for seed in range(RECORDS):
-            rng = random.Random(seed)
-            self.record.unlink()
-            inserted = [base64_of(random_bytes(rng.random(), rng.randint(1, 40))) for _ in range(rng.randint(1, 9))]
-            edits = [line("splice", doc="d", rev=rev, at=0, bytes=it, **{"del": 0}) for rev, it in enumerate(inserted)]
-            self.recorded("--record", line(**OPEN) + b"".join(edits))
-            whole = self.record.read_bytes()
-            ends = [it.end() for it in re.finditer(rb"# sum \w+\n", whole)]
-            cut = rng.choice([len(whole), rng.randint(ends[1], len(whole))])
-            covered = max(it for it in ends if it <= cut)
-            self.record.write_bytes(whole[:covered])
-            wanted, _ = self.found()
-            damaged = bytearray(whole[:cut])
-            bit = rng.randrange(8 * whole.index(b"\n"), 8 * cut)
-            damaged[bit // 8] ^= 1 << bit % 8
-            self.record.write_bytes(damaged)
-            with self.subTest(seed=seed, bit=bit, cut=cut):
-                replies, (status, error) = self.found()
-                if status == 0:
-                    self.assertGreaterEqual(bit // 8, covered)
-                    self.assertEqual(replies, wanted)
-                else:
-                    self.assertEqual((status, self.record.read_bytes()), (2, bytes(damaged)))
-                    self.assertRegex(error, r"^gate: record line \d+\n$|^gate: .* (is not a record|of another version of gate)\n$")
-
-    def test_a_line_that_is_left_out(self):
-        lines = self.whole.splitlines(keepends=True)
-        for number in range(1, len(lines) - 1):
-            self.record.write_bytes(b"".join(lines[:number] + lines[number + 1 :]))
-            # (without a line before its sum, or with two writes before one)
-            self.stays("--resume", 2, f"gate: record line {number + 1 if number % 2 else number + 2}\n")
-            self.stays("compact", 2, f"gate: record line {number + 1 if number % 2 else number + 2}\n")
-
-    def test_what_follows_the_last_sum(self):
-        event = b"bytes 0 %b\n" % base64_of(line(**STAT)).encode()
-        sum_line = with_sums(self.whole, event)[len(self.whole) + len(event) :]
-        number = self.whole.count(b"\n")
-        # a write that was torn off, and what it isn't
-        torn = b"", b"o", event[:-1], event, event + sum_line[:1], event + sum_line[:-1], b"close 0\nopen 0\n", b"close 0\nope"
-        other = [
-            (b"x", 1), (b"\n", 1), (b"\0" * 9, 1), (event + b"\n", 2), (event + sum_line[:-2] + b"\n", 2), (event + b"# s\n", 2), (event + b"#x", 2),
-            (event[:-1] + sum_line, 1), (b"part YQ==\n", 1), (event + b"c sum 12\n", 2), (event + event + sum_line, 3), (sum_line, 1),
-        ]
-        for tail in torn:
-            with self.subTest(tail=tail):
-                self.record.write_bytes(self.whole + tail)
-                self.assertEqual(self.run_with("--resume"), (0, ""))
-                self.assertEqual(self.record.read_bytes(), with_sums(self.whole, b"open 0\n", b"close 0\n"))
-        for tail, line_number in other:
-            with self.subTest(tail=tail):
-                self.record.write_bytes(self.whole + tail)
-                for way in "--resume", "compact":
-                    self.stays(way, 2, f"gate: record line {number + line_number}\n")
-
-    def test_a_record_of_version_1_has_no_sums(self):
-        old = former_line() + without_sums(self.whole)
-        for way in "--resume", "compact":
-            self.record.write_bytes(old + b"open 0\nbytes 0 ")
-            self.assertEqual(self.run_with(way), (0, ""))
-            if way == "--resume":
-                self.assertEqual(self.record.read_bytes(), old + b"open 0\nclose 0\nopen 0\nclose 0\n")
-            else:
-                self.assertTrue(self.record.read_bytes().startswith(first_line() + b"part "))
-            self.assertEqual(self.rev(), 2)
-
-    def test_other_files_and_a_turned_bit(self):
-        other = self.folder_of("other", "index-jis0208.txt")
-        lines = self.whole.splitlines(keepends=True)
-        for number in range(1, len(lines)):
-            damaged = [*lines]
-            damaged[number] = damaged[number].replace(b"0", b"1", 1)
-            self.record.write_bytes(b"".join(damaged))
-            error = f"gate: record line {number + 1 + number % 2}\n"
-            self.stays("--resume", 2, error, "--other-files", indexes=other)
-        # (its first line has another sum, but the same files)
-        self.record.write_bytes(b"".join([lines[0].replace(b"indexes ", b"indexes 0", 1), *lines[1:]]))
-        self.stays("--resume", 2, "gate: record line 3\n", "--other-files")
 
 
 @recording

@@ -1,10 +1,9 @@
 //! Compaction: a record is replaced by one that begins with the present documents.
 
-use crate::course::{Start, is_record};
+use crate::course::is_record;
 use crate::failure::Failure;
-use crate::looking::check_extent;
 use gateway::{CONNECTIONS, Event, Failed, Gateway, Outlet, ToWrite, write_all};
-use records::{CompactFault, Summed, compact};
+use records::{CompactFault, compact};
 use std::alloc::Global;
 use std::fmt;
 use std::fs::{self, File, Files, Metadata};
@@ -31,28 +30,16 @@ pub struct Content<'c, 'i> {
 }
 
 impl Content<'_, '_> {
-    /// Writes its first line, and then its head, of which each line has its sum.
-    fn put(&self, file: &File) -> Result<(), CompactFault> {
-        let mut out = ToWrite::new(file);
-        match write_all(&mut out, self.header.as_bytes()) {
-            Ok(()) => {}
-            Err(Failed) => return Err(CompactFault::Write),
+    /// Writes its first line, and then its head.
+    fn put<W: Outlet>(&self, out: &mut W) -> Result<(), CompactFault> {
+        match write_all(out, self.header.as_bytes()) {
+            Ok(()) => compact(self.alloc, self.gateway, out),
+            Err(Failed) => Err(CompactFault::Write),
         }
-        let first = self.start().sum;
-        let mut summed = ToWrite::new(Summed::new(self.alloc, out, Some(first)));
-        compact(self.alloc, self.gateway, &mut summed)
-    }
-
-    /// The start of its sums.
-    fn start(&self) -> Start {
-        Start::of(self.header.as_bytes())
     }
 }
 
-/// The number of bytes of a sum's line.
-const SUM_LINE: u64 = 71;
-
-/// Accepts a limited number of bytes, each write with the line of its sum, and discards them.
+/// Accepts a limited number of bytes, and discards them.
 #[derive(Drop)]
 struct Room {
     left: u64,
@@ -60,7 +47,7 @@ struct Room {
 
 impl Write for Room {
     fn write(&mut self, buf: &[u8]) -> io::Result<usize> {
-        match self.left.checked_sub(buf.len() as u64 + SUM_LINE) {
+        match self.left.checked_sub(buf.len() as u64) {
             Some(left) => {
                 self.left = left;
                 Ok(buf.len())
@@ -80,15 +67,10 @@ pub fn pays(content: &Content<'_, '_>, length: u64) -> bool {
     if length <= SHORT {
         return false;
     }
-    let Some(left) = ((length - 1) / TIMES).checked_sub(content.header.len() as u64) else {
-        return false;
+    let room = Room {
+        left: (length - 1) / TIMES,
     };
-    compact(
-        content.alloc,
-        content.gateway,
-        &mut ToWrite::new(Room { left }),
-    )
-    .is_ok()
+    content.put(&mut ToWrite::new(room)).is_ok()
 }
 
 /// A record that has come to the place of another, and the folder that both are in.
@@ -96,8 +78,6 @@ pub fn pays(content: &Content<'_, '_>, length: u64) -> bool {
 pub struct Replacement {
     file: File,
     folder: File,
-    /// The last sum in it.
-    pub sum: Option<[u8; 32]>,
 }
 
 impl Replacement {
@@ -205,14 +185,11 @@ pub fn replace<'a, T: Files<File = File>>(
         return Err(Failure::CannotRecord(name));
     };
     let came = match write(content, &file) {
-        Ok(sum) => match paths.exchange(rt, old, former) {
-            Ok(()) => Ok(sum),
-            Err(_) => Err(Failure::Write),
-        },
+        Ok(()) => paths.exchange(rt, old, former).map_err(|_| Failure::Write),
         Err(failure) => Err(failure),
     };
     match came {
-        Ok(sum) => Ok(Replacement { file, folder, sum }),
+        Ok(()) => Ok(Replacement { file, folder }),
         Err(failure) => {
             let _ = fs::remove_file(rt, paths.beside.as_str());
             Err(failure)
@@ -250,7 +227,7 @@ fn folder_of(place: &str) -> &str {
 /// that writes there has the record's lock. A file that another process has locked is something else.
 fn fresh<T: Files<File = File>>(rt: &T, path: &str) -> io::Result<File> {
     let mut options = File::options();
-    options.read(true).append(true).create_new(true).mode(0o600);
+    options.append(true).create_new(true).mode(0o600);
     match options.open(rt, path) {
         Err(error) if error.kind() == ErrorKind::AlreadyExists && is_left(rt, path) => {
             fs::remove_file(rt, path)?;
@@ -282,21 +259,12 @@ fn owned<T: Files<File = File>>(rt: &T, path: &str, file: &File, was: &Metadata)
     chown(rt, path, Some(was.uid()), Some(was.gid()))
 }
 
-/// Writes a record of this content into a file, to the disk. Its sums are checked as the file has them,
-/// and the last one is returned.
-fn write<'a>(content: &Content<'_, '_>, file: &File) -> Result<Option<[u8; 32]>, Failure<'a>> {
-    match content.put(file) {
-        Ok(()) => {}
-        Err(CompactFault::Write) => return Err(Failure::Write),
-        Err(CompactFault::OutOfMemory) => return Err(Failure::OutOfMemory),
-    }
-    if file.sync_all().is_err() {
-        return Err(Failure::Write);
-    }
-    match check_extent(content.alloc, file, Some(content.start())) {
-        Ok(extent) => Ok(extent.sum),
-        Err(Failure::OutOfMemory) => Err(Failure::OutOfMemory),
-        Err(_) => Err(Failure::Write),
+/// Writes a record of this content into a file, to the disk.
+fn write<'a>(content: &Content<'_, '_>, file: &File) -> Result<(), Failure<'a>> {
+    match content.put(&mut ToWrite::new(file)) {
+        Ok(()) => file.sync_all().map_err(|_| Failure::Write),
+        Err(CompactFault::Write) => Err(Failure::Write),
+        Err(CompactFault::OutOfMemory) => Err(Failure::OutOfMemory),
     }
 }
 

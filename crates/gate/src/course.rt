@@ -2,7 +2,7 @@
 
 use crate::failure::{Failure, OtherFiles};
 use command_line::Allowances;
-use records::{Beginning, beginning_of, first_sum};
+use records::{Beginning, beginning_of};
 use std::fs::{File, Files};
 use std::os::unix::fs::FileExt;
 
@@ -11,9 +11,6 @@ const FRONT: usize = 512;
 
 /// How each record begins.
 const FORMAT: &[u8] = b"# gate record ";
-
-/// How a record with sums begins.
-const SUMMED: &[u8] = b"# gate record 2 ";
 
 /// How a line of a record begins.
 const LINES: [&[u8]; 6] = [b"open ", b"bytes ", b"close ", b"part ", b"adopt ", b"#"];
@@ -29,85 +26,28 @@ pub enum Course {
     Rewrite,
 }
 
-/// The first lines of records that are written with some files: of new ones, and of those of version 1,
-/// which have no sums.
-#[derive(Drop)]
-pub struct Headers {
-    /// The first line of a new record.
-    pub now: String,
-    /// The first line of a record of version 1.
-    pub former: String,
-}
-
-/// What a file is that is to be a record, and how its chain of sums starts.
-#[derive(Clone, Copy, PartialEq, Eq)]
-pub struct Found {
-    /// What is done with it.
-    pub course: Course,
-    /// The start of its sums, if it has some.
-    pub start: Option<Start>,
-}
-
-/// The start of a record's sums.
-#[derive(Clone, Copy, PartialEq, Eq)]
-pub struct Start {
-    /// The sum of the first line.
-    pub sum: [u8; 32],
-    /// The number of bytes of the first line.
-    pub length: u64,
-}
-
-impl Start {
-    /// The start of a record with this first line.
-    pub fn of(line: &[u8]) -> Start {
-        Start {
-            sum: first_sum(line),
-            length: line.len() as u64,
-        }
-    }
-}
-
-/// What the file of this name is. Only a file that begins as a record is taken.
-pub fn look_at<'a>(
+/// What is done with the file of this name, where a record's first line is `header`. Only a file that
+/// begins as a record is taken.
+pub fn course_of<'a>(
     file: &File,
     name: &'a str,
-    headers: &Headers,
+    header: &str,
     allowances: Allowances,
-) -> Result<Found, Failure<'a>> {
+) -> Result<Course, Failure<'a>> {
     let mut buffer = [0; FRONT];
     let front = front_of(file, 0, &mut buffer)?;
-    let course = match beginning_of(headers.now.as_bytes(), front) {
-        Beginning::OtherFiles => beginning_of(headers.former.as_bytes(), front),
-        beginning => beginning,
-    };
-    let course = match course {
-        Beginning::Empty | Beginning::TornHeader => Course::Begin,
-        Beginning::Header => Course::Continue,
-        Beginning::OtherFiles if allowances.other_files => Course::Rewrite,
+    match beginning_of(header.as_bytes(), front) {
+        Beginning::Empty | Beginning::TornHeader => Ok(Course::Begin),
+        Beginning::Header => Ok(Course::Continue),
+        Beginning::OtherFiles if allowances.other_files => Ok(Course::Rewrite),
         Beginning::OtherFiles => {
-            let files = OtherFiles::between(headers.now.as_bytes(), front);
-            return Err(Failure::OtherFiles(name, files));
+            let files = OtherFiles::between(header.as_bytes(), front);
+            Err(Failure::OtherFiles(name, files))
         }
-        Beginning::Old if allowances.old_record => Course::Rewrite,
-        Beginning::Old => return Err(Failure::OldRecord(name)),
-        Beginning::OtherVersion => return Err(Failure::OtherVersion(name)),
-        Beginning::Foreign => return Err(Failure::NoRecord(name)),
-    };
-    let start = match course {
-        Course::Begin => None,
-        Course::Continue | Course::Rewrite => start_of(front)?,
-    };
-    Ok(Found { course, start })
-}
-
-/// The start of the sums of a file with this front, if it is a record that has some.
-fn start_of<'a>(front: &[u8]) -> Result<Option<Start>, Failure<'a>> {
-    if !front.starts_with(SUMMED) {
-        return Ok(None);
-    }
-    match front.iter().position(|byte| *byte == b'\n') {
-        Some(end) => Ok(Some(Start::of(&front[..end + 1]))),
-        None => Err(Failure::RecordLine(1)),
+        Beginning::Old if allowances.old_record => Ok(Course::Rewrite),
+        Beginning::Old => Err(Failure::OldRecord(name)),
+        Beginning::OtherVersion => Err(Failure::OtherVersion(name)),
+        Beginning::Foreign => Err(Failure::NoRecord(name)),
     }
 }
 

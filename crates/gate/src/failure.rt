@@ -24,7 +24,7 @@ pub enum Failure<'a> {
     CannotRead(&'a str),
     /// The line of this number of a trace isn't skipped and has no event.
     TraceLine(u64),
-    /// The line of this number of a record isn't skipped and has no event, or is a sum that doesn't match.
+    /// The line of this number of a record isn't skipped and has no event.
     RecordLine(u64),
     /// Events can't be recorded in the file of this name.
     CannotRecord(&'a str),

@@ -10,7 +10,6 @@ mod conversion;
 mod course;
 mod failure;
 mod labels;
-mod looking;
 mod perform;
 mod record_file;
 mod replay;

@@ -239,18 +239,11 @@ fn record_live<'i, 'a, T: Files<File = File> + Net + Clock, E: Outlet>(
 ) -> Result<(), Failure<'a>> {
     let rt = named.rt;
     let served = served_at(rt, place)?;
-    let is_new = fs::symlink_metadata(rt, recording.file).is_err();
     let gateway = recorded(named, alloc, gateway, origin, recording, error)?;
     let mut sessions = Sessions::new(alloc, gateway);
     match serve_clients(rt, alloc, &mut sessions, served, limits) {
         Ok(()) => {}
-        Err(fault) => {
-            // Nobody was served, so a new record has no event.
-            if is_new && fault == ServingFault::Listen {
-                let _ = fs::remove_file(rt, recording.file);
-            }
-            return Err(failure_of_serving(fault, place));
-        }
+        Err(fault) => return Err(failure_of_serving(fault, place)),
     }
     whole(sessions.gateway().is_whole())
 }

@@ -4,28 +4,20 @@ ghost use Rattle.gateway.specs.Events.{connections};
 ghost use Rattle.records.specs.Losses.{seen_as};
 
 use crate::compaction::{Content, Former, NotCompacted, close_all, pays, replace};
-use crate::course::{Course, Found, Headers, Start, is_torn_line, look_at};
+use crate::course::{Course, course_of, is_torn_line};
 use crate::failure::Failure;
-use crate::looking::{Extent, check_extent, play_front};
 use crate::text_outlet::TextOutlet;
 use crate::watched::{Named, Watched};
 use command_line::{Allowances, Recording};
-use gateway::{Failed, Gateway, Outlet, Synced, ToWrite, write_all};
-use records::{Origin, Record, Recorded, Summed, Version, append_header};
+use gateway::{Failed, FromRead, Gateway, Outlet, Stop, Synced, ToWrite, write_all};
+use records::{Origin, PlayFault, Player, Record, Recorded, append_header, play};
 use std::alloc::{AllocError, Global};
 use std::fs::{self, File, Files, OpenOptions, TryLockError};
 use std::os::unix::fs::{MetadataExt, OpenOptionsExt};
 
-/// The file of a record. Each write ends with its sum. With `--sync` it is on the disk before it returns.
-/// A write fails if the file has lost its name.
-pub type RecordFile<'a, T> = ToWrite<Summed<ToWrite<Synced<Watched<'a, T>>>>>;
-
-/// A record's file, and the last sum in it. A record of version 1 has none.
-#[derive(Drop)]
-struct Ready {
-    file: File,
-    sum: Option<[u8; 32]>,
-}
+/// The file of a record. With `--sync` each write is on the disk before it returns. A write fails if the
+/// file has lost its name.
+pub type RecordFile<'a, T> = ToWrite<Synced<Watched<'a, T>>>;
 
 /// A gateway that records its events in the file that is named, after what is recorded there. No
 /// connection is open.
@@ -49,29 +41,27 @@ pub fn recorded<'i, 'a, T: Files<File = File>, E: Outlet>(
 {
     let mut gateway = gateway;
     let rt = named.rt;
-    let headers = headers_of(alloc, origin)?;
+    let header = header_of(alloc, origin)?;
     let place = Place {
         rt,
         alloc,
         name: recording.file,
-        header: &headers.now,
+        header: &header,
     };
     let file = open(rt, recording.file)?;
-    let found = look_at(&file, recording.file, &headers, recording.allowances)?;
-    let ready = match found.course {
-        Course::Begin => begin(file, &headers.now)?,
+    let file = match course_of(&file, recording.file, &header, recording.allowances)? {
+        Course::Begin => begin(file, &header)?,
         _ if !recording.resumes => return Err(Failure::HasRecord(recording.file)),
-        Course::Continue => place.resume(&mut gateway, file, found, error)?,
-        Course::Rewrite => place.rewrite(&mut gateway, &file, found)?,
+        Course::Continue => place.resume(&mut gateway, file, error)?,
+        Course::Rewrite => place.rewrite(&mut gateway, &file)?,
     };
-    let Ok(file) = Watched::new(named, ready.file) else {
+    let Ok(file) = Watched::new(named, file) else {
         return Err(Failure::Record);
     };
     let file = Synced {
         file,
         is_synced: recording.sync,
     };
-    let file = Summed::new(alloc, ToWrite::new(file), ready.sum);
     let mut recorded = Recorded::new(gateway, Record::new(alloc, ToWrite::new(file)));
     recorded.close_all();
     if recorded.is_whole() {
@@ -96,25 +86,24 @@ pub fn compacted<'a, T: Files<File = File>>(
     allowances: Allowances,
 ) -> Result<(), Failure<'a>> {
     let mut gateway = gateway;
-    let headers = headers_of(alloc, origin)?;
+    let header = header_of(alloc, origin)?;
     let place = Place {
         rt,
         alloc,
         name,
-        header: &headers.now,
+        header: &header,
     };
     let file = locked(rt, name, &recording())?;
-    let found = look_at(&file, name, &headers, allowances)?;
-    match found.course {
+    match course_of(&file, name, &header, allowances)? {
         Course::Begin => {
             place.replace(&gateway, &file, Former::Gone)?;
         }
         Course::Continue => {
-            place.play(&mut gateway, &file, found)?;
+            played(alloc, &mut gateway, &file)?;
             place.replace(&gateway, &file, Former::Gone)?;
         }
         Course::Rewrite => {
-            place.rewrite(&mut gateway, &file, found)?;
+            place.rewrite(&mut gateway, &file)?;
         }
     }
     Ok(())
@@ -130,70 +119,44 @@ struct Place<'a, 'h, T: Files> {
 }
 
 impl<'a, T: Files<File = File>> Place<'a, '_, T> {
-    /// Plays the record, and removes what was torn off. Returns the file in which events are recorded
-    /// now. If a record of the documents is much shorter, it replaces the old one, which is kept.
+    /// Plays the record, and removes a last line that was torn off. Returns the file in which events are
+    /// recorded now. If a record of the documents is much shorter, it replaces the old one, which is kept.
     fn resume<E: Outlet>(
         &self,
         gateway: &mut Gateway<'_>,
         file: File,
-        found: Found,
         error: &mut E,
-    ) -> Result<Ready, Failure<'a>> {
-        let extent = self.play(gateway, &file, found)?;
-        if length(&file)? != extent.end && file.set_len(extent.end).is_err() {
+    ) -> Result<File, Failure<'a>> {
+        let whole = played(self.alloc, gateway, &file)?.whole();
+        if length(&file)? != whole && file.set_len(whole).is_err() {
             return Err(Failure::Record);
         }
-        let as_it_is = |file| Ready {
-            file,
-            sum: extent.sum,
-        };
-        if !pays(&self.content(gateway), extent.end) {
-            return Ok(as_it_is(file));
+        if !pays(&self.content(gateway), whole) {
+            return Ok(file);
         }
         match self.replace(gateway, &file, Former::Kept) {
-            Ok(ready) => {
+            Ok(file) => {
                 close_all(gateway);
-                Ok(ready)
+                Ok(file)
             }
             Err(Failure::Record) => Err(Failure::Record),
             Err(_) => {
                 let _ = TextOutlet::new(error).put(&NotCompacted(self.name));
-                Ok(as_it_is(file))
+                Ok(file)
             }
         }
     }
 
-    /// Checks the sums of the record, and then plays it. Returns how far it is whole.
-    fn play(
-        &self,
-        gateway: &mut Gateway<'_>,
-        file: &File,
-        found: Found,
-    ) -> Result<Extent, Failure<'a>> {
-        let extent = check_extent(self.alloc, file, found.start)?;
-        let player = play_front(self.alloc, gateway, file, extent.end)?;
-        Ok(Extent {
-            end: player.whole(),
-            sum: extent.sum,
-        })
-    }
-
     /// Plays the record, and replaces it by one with the expected first line. The old one is kept, since
     /// with other index files than it was written with, documents may be missing.
-    fn rewrite(
-        &self,
-        gateway: &mut Gateway<'_>,
-        file: &File,
-        found: Found,
-    ) -> Result<Ready, Failure<'a>> {
-        let extent = check_extent(self.alloc, file, found.start)?;
-        let player = play_front(self.alloc, gateway, file, extent.end)?;
-        if found.start.is_none() && !is_torn_line(file, player.whole())? {
+    fn rewrite(&self, gateway: &mut Gateway<'_>, file: &File) -> Result<File, Failure<'a>> {
+        let player = played(self.alloc, gateway, file)?;
+        if !is_torn_line(file, player.whole())? {
             return Err(Failure::RecordLine(player.number()));
         }
-        let ready = self.replace(gateway, file, Former::Kept)?;
+        let file = self.replace(gateway, file, Former::Kept)?;
         close_all(gateway);
-        Ok(ready)
+        Ok(file)
     }
 
     /// Replaces the record by one of the documents as they are, and returns its file.
@@ -202,13 +165,8 @@ impl<'a, T: Files<File = File>> Place<'a, '_, T> {
         gateway: &Gateway<'_>,
         file: &File,
         former: Former,
-    ) -> Result<Ready, Failure<'a>> {
-        let came = replace(self.rt, &self.content(gateway), self.name, file, former)?;
-        let sum = came.sum;
-        Ok(Ready {
-            file: came.settled()?,
-            sum,
-        })
+    ) -> Result<File, Failure<'a>> {
+        replace(self.rt, &self.content(gateway), self.name, file, former)?.settled()
     }
 
     /// A record of the documents as they are.
@@ -221,18 +179,10 @@ impl<'a, T: Files<File = File>> Place<'a, '_, T> {
     }
 }
 
-/// The first lines of records that are written with these files.
-fn headers_of<'a>(alloc: Global, origin: &Origin) -> Result<Headers, Failure<'a>> {
-    Ok(Headers {
-        now: header_of(alloc, Version::Summed, origin)?,
-        former: header_of(alloc, Version::Unsummed, origin)?,
-    })
-}
-
-/// The first line of a record of a version.
-fn header_of<'a>(alloc: Global, version: Version, origin: &Origin) -> Result<String, Failure<'a>> {
+/// The first line of a record that is written with these files.
+fn header_of<'a>(alloc: Global, origin: &Origin) -> Result<String, Failure<'a>> {
     let mut header = String::new(alloc);
-    match append_header(alloc, &mut header, version, origin) {
+    match append_header(alloc, &mut header, origin) {
         Ok(()) => Ok(header),
         Err(AllocError) => Err(Failure::OutOfMemory),
     }
@@ -279,15 +229,12 @@ fn locked<'a, T: Files<File = File>>(
 
 /// Begins a record in a file that has none, or the front of a first line. If that can't be written, the
 /// file is empty.
-fn begin<'a>(file: File, header: &str) -> Result<Ready, Failure<'a>> {
+fn begin<'a>(file: File, header: &str) -> Result<File, Failure<'a>> {
     if length(&file)? > 0 && file.set_len(0).is_err() {
         return Err(Failure::Record);
     }
     match write_all(&mut ToWrite::new(&file), header.as_bytes()) {
-        Ok(()) => Ok(Ready {
-            file,
-            sum: Some(Start::of(header.as_bytes()).sum),
-        }),
+        Ok(()) => Ok(file),
         Err(Failed) => {
             let _ = file.set_len(0);
             Err(Failure::Record)
@@ -295,8 +242,25 @@ fn begin<'a>(file: File, header: &str) -> Result<Ready, Failure<'a>> {
     }
 }
 
+/// Plays what a file has.
+fn played<'a>(
+    alloc: Global,
+    gateway: &mut Gateway<'_>,
+    file: &File,
+) -> Result<Player, Failure<'a>> {
+    let mut player = Player::new(alloc);
+    let mut reader = FromRead::new(file);
+    match play(&mut player, gateway, &mut reader) {
+        Ok(()) => Ok(player),
+        Err(Stop::Read) => Err(Failure::Read),
+        Err(Stop::TooManyReads) => Err(Failure::TooManyReads),
+        Err(Stop::Taker(PlayFault::BadLine)) => Err(Failure::RecordLine(player.number())),
+        Err(Stop::Taker(PlayFault::OutOfMemory)) => Err(Failure::OutOfMemory),
+    }
+}
+
 /// How many bytes a file has.
-pub(crate) fn length<'a>(file: &File) -> Result<u64, Failure<'a>> {
+fn length<'a>(file: &File) -> Result<u64, Failure<'a>> {
     match file.metadata() {
         Ok(metadata) => Ok(metadata.len()),
         Err(_) => Err(Failure::Read),

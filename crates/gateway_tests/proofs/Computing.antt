@@ -4,7 +4,6 @@ use Rattle.base64.proofs.OnLiterals.{base64_on_literals}
 use Rattle.json.specs.Print.{escape_byte}
 use Rattle.serde_json.proofs.OnLiterals.{serde_json_on_literals}
 use Rattle.gateway.specs.Trace.{number_in}
-use Rattle.hex.specs.Hex.{encode_with}
 
 unfoldable pub of_requests : Unit {0}
 unfolding is_utf8 chars serde_json_on_literals
@@ -17,7 +16,3 @@ of_replies = tt
 unfoldable pub of_traces : Unit {0}
 unfolding number_in digits base64_on_literals
 of_traces = tt
-
-unfoldable pub of_sums : Unit {0}
-unfolding encode_with
-of_sums = tt

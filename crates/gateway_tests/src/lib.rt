@@ -21,6 +21,4 @@ mod stopping;
 #[cfg(test)]
 mod stops;
 #[cfg(test)]
-mod sums;
-#[cfg(test)]
 mod traces;

@@ -1,8 +1,6 @@
-mod Beginnings
 mod Closing
 mod Compaction
 mod Events
-mod Handing
 mod HeadFirst
 mod HeadLines
 mod Lines
@@ -11,6 +9,4 @@ mod Played
 mod Playing
 mod Putting
 mod ReadThrough
-mod SumLaws
-mod Summing
 mod Texts

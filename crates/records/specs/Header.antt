@@ -4,7 +4,6 @@ use Rattle.std.specs.List.{starts_with}
 use Rattle.hex.specs.Hex.{encode_lower}
 use Rattle.records.specs.declared.header.Origin.{Origin}
 use Rattle.records.specs.declared.header.Beginning.{Beginning}
-use Rattle.records.specs.declared.header.Version.{Version, TheVariants.Unsummed, TheVariants.Summed}
 use Rattle.records.specs.declared.header.Beginning.TheVariants.{Empty, Header, TornHeader, OtherFiles, OtherVersion, Old, Foreign}
 
 -- ---- the line
@@ -13,10 +12,9 @@ use Rattle.records.specs.declared.header.Beginning.TheVariants.{Empty, Header, T
 abbrev pub format_words : List ℕ
 format_words = codes "# gate record "
 
--- the words that begin a record of a version: 1 has no sums, 2 has them
-abbrev pub version_words : Version → List ℕ
-version_words Unsummed = codes "# gate record 1 "
-version_words Summed = codes "# gate record 2 "
+-- the words that begin a record of this version
+abbrev pub version_words : List ℕ
+version_words = codes "# gate record 1 "
 
 abbrev pub labels_words : Origin → List ℕ
 labels_words o = codes " labels " ++ (encode_lower o.labels ++ 10 ∷ [])
@@ -24,13 +22,10 @@ labels_words o = codes " labels " ++ (encode_lower o.labels ++ 10 ∷ [])
 abbrev pub exceptions_words : Origin → List ℕ
 exceptions_words o = codes " exceptions " ++ (encode_lower o.exceptions ++ labels_words o)
 
-abbrev pub indexes_words : Origin → List ℕ
-indexes_words o = codes "indexes " ++ (encode_lower o.indexes ++ exceptions_words o)
-
 -- The first line of a record, with its line feed: a comment that names the format and its version. The SHA-256 of the index files, of the
 -- exceptions and of the labels follow.
-abbrev pub header_line : Version → Origin → List ℕ
-header_line version o = version_words version ++ indexes_words o
+abbrev pub header_line : Origin → List ℕ
+header_line o = codes "# gate record 1 indexes " ++ (encode_lower o.indexes ++ exceptions_words o)
 
 -- ---- what a file is, by its first bytes
 
@@ -44,7 +39,7 @@ begins_old text = begins (codes "open ") text || (begins (codes "part ") text ||
 -- a file whose first line isn't the one that is expected, whole or torn off
 abbrev pub another : List ℕ → Beginning
 another front =
-    if begins (version_words Summed) front || begins (version_words Unsummed) front then OtherFiles
+    if begins version_words front then OtherFiles
     else (if begins format_words front then OtherVersion else (if begins_old front then Old else Foreign))
 
 -- whether the bytes are a front of the line, and more than the words before the version

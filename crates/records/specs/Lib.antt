@@ -7,5 +7,3 @@ pub mod Losses
 pub mod Names
 pub mod Playing
 pub mod Records
-pub mod SumLaws
-pub mod Sums

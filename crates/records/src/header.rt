@@ -1,34 +1,15 @@
 //! The first line of a record: what the file is, and which files its commands were answered with.
 ghost use Rattle.std.specs.Prelude.{◌≡◌, ◌++◌, OnOk, string_bytes};
 ghost use Rattle.hex.specs.Hex.{encode_lower};
-ghost use Rattle.records.specs.Header.{another, beginning_of, begins_old, exceptions_words, header_line, indexes_words};
-ghost use Rattle.records.specs.Header.{is_torn, labels_words, version_words, without_line};
+ghost use Rattle.records.specs.Header.{another, beginning_of, begins_old, exceptions_words, header_line, is_torn, labels_words, without_line};
 
 use std::alloc::{AllocError, Global};
 
 /// The words before the version.
 const FORMAT: &[u8] = b"# gate record ";
 
-/// What a record's lines are.
-#[derive(Clone, Copy, PartialEq, Eq, Debug)]
-pub enum Version {
-    /// Version 1: events without sums.
-    Unsummed,
-    /// Version 2: each write ends with its sum.
-    Summed,
-}
-
-impl Version {
-    /// The words that begin a record of this version.
-    fn words(self) -> &'static str
-        ensures { result.now ≡ version_words self }
-    {
-        match self {
-            Version::Unsummed => "# gate record 1 ",
-            Version::Summed => "# gate record 2 ",
-        }
-    }
-}
+/// The words that begin a record of this version.
+const VERSION: &[u8] = b"# gate record 1 ";
 
 /// The files that a record's commands are answered with: the SHA-256 of each kind.
 #[derive(Clone, Copy, PartialEq, Eq, Debug)]
@@ -50,7 +31,7 @@ pub enum Beginning {
     Header,
     /// The beginning of the expected first line, which was torn off, and nothing else.
     TornHeader,
-    /// A record of version 1 or 2 whose first line isn't the expected one.
+    /// A record of this version that was written with other files.
     OtherFiles,
     /// A record of another version.
     OtherVersion,
@@ -61,23 +42,10 @@ pub enum Beginning {
 }
 
 /// Appends the first line of a record, with its line feed.
-pub fn append_header(
-    alloc: Global,
-    text: &mut String,
-    version: Version,
-    origin: &Origin,
-) -> Result<(), AllocError>
-    ensures { OnOk result (string_bytes text.new ≡ string_bytes text.old ++ header_line version origin.now) }
+pub fn append_header(alloc: Global, text: &mut String, origin: &Origin) -> Result<(), AllocError>
+    ensures { OnOk result (string_bytes text.new ≡ string_bytes text.old ++ header_line origin.now) }
 {
-    text.push_str(version.words())?;
-    append_indexes(alloc, text, origin)
-}
-
-/// Appends what follows the version.
-fn append_indexes(alloc: Global, text: &mut String, origin: &Origin) -> Result<(), AllocError>
-    ensures { OnOk result (string_bytes text.new ≡ string_bytes text.old ++ indexes_words origin.now) }
-{
-    text.push_str("indexes ")?;
+    text.push_str("# gate record 1 indexes ")?;
     append_sum(alloc, text, &origin.indexes)?;
     append_exceptions(alloc, text, origin)
 }
@@ -143,9 +111,7 @@ fn is_torn(header: &[u8], front: &[u8]) -> bool
 fn another(front: &[u8]) -> Beginning
     ensures { result ≡ another front.now }
 {
-    if front.starts_with(Version::Summed.words().as_bytes())
-        || front.starts_with(Version::Unsummed.words().as_bytes())
-    {
+    if front.starts_with(VERSION) {
         Beginning::OtherFiles
     } else if front.starts_with(FORMAT) {
         Beginning::OtherVersion

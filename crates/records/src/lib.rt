@@ -1,11 +1,10 @@
 //! Records: what happens on the connections of a gateway, written as lines of a trace before each
 //! reply is handed out, so that it can be played again.
 //!
-//! Keeps: It has no file: lines go to a device whose bytes contracts know. It parses no line but
-//! those of sums, and of documents it has what it borrows from the desk. What a line means is up to `gateway`.
+//! Keeps: It has no file: lines go to a device whose bytes contracts know. It parses no line, and
+//! of documents it has what it borrows from the desk. What a line means is up to `gateway`.
 #![tactic(auto)]
 
-mod chain;
 mod documents;
 mod header;
 mod heads;
@@ -17,13 +16,9 @@ mod player;
 mod read_through;
 mod record;
 mod recorded;
-mod sum_laws;
-mod summed;
-mod sums;
 
-pub use chain::SumFault;
 pub use documents::{CompactFault, compact, law_compact};
-pub use header::{Beginning, Origin, Version, append_header, beginning_of};
+pub use header::{Beginning, Origin, append_header, beginning_of};
 pub use heads::law_headed_records;
 pub use laws::{law_playing, law_records};
 pub use names::law_names;
@@ -31,6 +26,3 @@ pub use player::{PlayFault, Player};
 pub use read_through::play;
 pub use record::{EventFault, Record};
 pub use recorded::Recorded;
-pub use sum_laws::law_sums;
-pub use summed::Summed;
-pub use sums::{Sums, check_sums, first_sum};
