@@ -205,8 +205,8 @@ class Copy(Holder, Questions):
         byte that was edited to the last. If more was done than `gate` keeps, or the document was closed and another was opened
         under its name, the copy is read again, and the edit is `anew`.
 
-        Another document of at most 16 KiB is noticed at once, and a longer one of the same length once the 16 KiB that differ
-        are compared: each call compares the next ones. `compare` compares all. If `Gate.start` has started the program, nobody
+        Another document of at most 16 KiB is noticed at once. Each call compares 16 KiB of a longer one, so that one of the same
+        length is noticed once the call reaches what differs. `compare` compares all. If `Gate.start` has started the program, nobody
         else can replace its documents, and only revisions and lengths are compared."""
         if self._unsure:
             raise Unsure()

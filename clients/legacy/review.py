@@ -37,8 +37,8 @@ WHOLE_RULES = ("twice", "high-bit")
 
 
 class Shown(NamedTuple):
-    """An edit on the page: its file, place and bytes. It has the text before it on its line, its old text, and the text after that,
-    then its new text and the text after that; or the reason for their absence."""
+    """An edit on the page: its file, place and bytes. It has the text before it on its line, and its old and its new text, each with
+    the text after it; or the reason for their absence."""
 
     number: int
     path: str

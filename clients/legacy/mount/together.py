@@ -5,7 +5,7 @@ In all encodings but UTF-16, ISO-2022-JP and replacement a line feed is that cha
 decoder into its first state (legacy/ascii.py says why). So files that end in one can be decoded one after the other. A line of
 ASCII that no file has follows each, by which the text is cut into theirs.
 
-A file that doesn't end in a line feed gets one. A torn character before it is one error, as at the end of a file. Only in gb18030
+A file that doesn't end in a line feed gets one. A torn character before it is one error, like one at the end of a file. Only in gb18030
 and GBK may it become other characters."""
 import errno
 import os

@@ -11,8 +11,8 @@ PART, MOST = 1 << 21, 1 << 23
 # Bytes of ASCII, except CR.
 ASCII = bytes(it for it in range(0x80) if it != 0x0D)
 DIGITS = b"0123456789"
-# The escapes of ISO-2022-JP to states in which a line feed is one, and what a part in that state begins with: the escape, and a
-# line feed that isn't the file's.
+# The escapes of ISO-2022-JP to states in which a line feed is a line feed. With each is what a part in that state begins with: the
+# escape, and a line feed that isn't the file's.
 HEADS = {b"\x1b(B": b"", b"\x1b(J": b"\x1b(J\n"}
 ESCAPE = b"\x1b"
 

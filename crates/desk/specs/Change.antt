@@ -52,8 +52,8 @@ abbrev pub carried_out : Document → List ℕ → Result Plan ChangeFault → R
 carried_out d text (Ok plan) = made_unless (plan_fault d text plan) (made d plan)
 carried_out d text (Err fault) = Err (because.Plan fault)
 
--- What is left where bytes are put in the place of a range, by the splice planned for it, or why that is refused. The text, in UTF-8, must
--- have replaced the range, or the whole text if there is none.
+-- What is left after bytes replace a range, by the splice planned for it, or why that is refused. The text, in UTF-8, must have replaced
+-- the range, or the whole text if there is none.
 abbrev pub substituted : TextUnit → Option Range → List ℕ → Inserted → Document → Result (Applied Plan) ChangeCause
 substituted unit range text new d = carried_out d (chars text) (planned d range unit new)
 

@@ -26,8 +26,8 @@ logged_all log (u ∷ us) = logged_all (logged log u) us
 abbrev pub all_untouched : ℕ → Untouched
 all_untouched n = record { before = n; front = n; back = n }
 
--- What is left of n bytes where `ins` bytes replace the `del` bytes at `at`: the bytes before these, and those after them. Where nothing goes out
--- or comes in, all are left.
+-- What is left of n bytes where `ins` bytes replace the `del` bytes at `at`: the bytes before these, and those after them. If nothing goes out or
+-- comes in, all are left.
 abbrev pub untouched_by : ℕ → ℕ → ℕ → ℕ → Untouched
 untouched_by at del ins n =
     if nat_lt 0 del || nat_lt 0 ins then record { before = n; front = min at n; back = n - at - del } else all_untouched n

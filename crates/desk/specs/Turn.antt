@@ -10,13 +10,13 @@ reports_change (Changes r) = true
 reports_change (Closed rev) = true
 reports_change reply = false
 
--- the greatest count, behind which it begins again
+-- the greatest count, after which it begins again
 abbrev pub last_turn : ℕ
 last_turn = 2 ^ 53 - 1
 
 abbrev pub next_turn : ℕ → ℕ
 next_turn turn = if nat_lt turn last_turn then turn + 1 else 0
 
--- the count behind a reply
+-- the count after a reply
 abbrev pub turn_after : ℕ → Reply → ℕ
 turn_after turn reply = if reports_change reply then next_turn turn else turn

@@ -5,7 +5,7 @@ ghost use Rattle.desk.specs.Turn.{next_turn, turn_after};
 use crate::max_number::MAX_NUMBER;
 use crate::ops::Reply;
 
-/// The count behind a reply: one more if it reports an accepted open, edit or close.
+/// The count after a reply: one more if it reports an accepted open, edit or close.
 pub(crate) fn turn_after(turn: u64, reply: &Reply) -> u64
     ensures { result ≡ turn_after turn reply.now }
 {
@@ -17,7 +17,7 @@ pub(crate) fn turn_after(turn: u64, reply: &Reply) -> u64
     }
 }
 
-/// One more. Behind the greatest number of a line it begins at 0 again.
+/// One more. After the greatest number of a line it begins at 0 again.
 fn next_turn(turn: u64) -> u64
     ensures { result ≡ next_turn turn }
 {

@@ -37,8 +37,8 @@ impl Untouched {
         }
     }
 
-    /// All bytes except `del` bytes starting at `at`, of a document of `before` bytes, in place of
-    /// which `ins` bytes came in. If none came in or went out, all bytes.
+    /// All bytes except `del` bytes starting at `at`, of a document of `before` bytes, if `ins`
+    /// bytes replaced these. If none came in or went out, all bytes.
     pub(crate) fn by_splice(at: u64, del: u64, ins: usize, before: u32) -> Untouched
         ensures { result ≡ untouched_by at del ins before }
     {

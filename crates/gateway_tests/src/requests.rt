@@ -149,7 +149,7 @@ fn changes()
         ≡ Ok (9, question_at (codes "d") (Plan Utf8 None (codes "x"))) }
 {}
 
-/// Given bytes come behind the fields of a change.
+/// Given bytes come after the fields of a change.
 fn given_bytes()
     ensures range { request_of_line (codes
         "{\"id\":9,\"op\":\"replace\",\"doc\":\"d\",\"rev\":2,\"unit\":\"utf-8\",\"range\":{\"start\":{\"line\":0,\"character\":1},\"end\":{\"line\":0,\"character\":3}},\"text\":\"x\",\"bytes\":\"eA==\"}")

@@ -47,7 +47,7 @@ IsIndexFault files encodings (CannotRead name) = IsNameOf files encodings name.n
 IsIndexFault files encodings (Index fault) = IsNameOf files encodings fault.name.now
 IsIndexFault files encodings OutOfMemory = ⊤
 
--- the file that a fault names, if it names one, is that of an index that one of these encodings needs; or that of the exceptions, and gb18030 or
--- GBK is one of them
+-- The file that a fault names, if it names one, is that of an index that one of these encodings needs. If gb18030 or GBK is one of them, it may
+-- be that of the exceptions.
 abbrev pub IsFaultOf : List Encoding → FolderFault → Type 0
 IsFaultOf encodings fault = IsIndexFault named_files encodings fault ⊎ ((is_needed encodings Gb18030 ≡ true) × Names EXCEPTIONS_FILE.now fault)

@@ -49,9 +49,9 @@ pub fn indexes_for<T: Files>(
 /// of it.
 #[derive(Clone, Copy, PartialEq, Eq, Debug)]
 pub struct FolderSums {
-    /// Of the index files.
+    /// The sum of the index files.
     pub indexes: [u8; 32],
-    /// Of the exceptions of the gb18030 encoder.
+    /// The sum of the exceptions of the gb18030 encoder.
     pub exceptions: [u8; 32],
 }
 

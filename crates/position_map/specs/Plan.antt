@@ -56,7 +56,7 @@ abbrev pub put_in : Document → Encoding → OutputState → OutputState → �
 put_in d Iso2022Jp s r right text = bytes_only (with_return r (drop right d.bytes) (encoded_iso d.indexes s text false false))
 put_in d encoding s r right text = encoded_in d.indexes encoding false text
 
--- what is put in the place of a range: a text, by its bytes, or bytes that are given
+-- what replaces a range: a text, by its bytes, or bytes that are given
 pub data Inserted : Type 0 where
   Encoded : List ℕ → Inserted
   Given : List ℕ → Inserted

@@ -1,6 +1,6 @@
-//! What a change puts in the place of a range.
+//! What replaces a range of a text.
 
-/// What is put in the place of a range of a text.
+/// What replaces a range of a text.
 #[derive(Clone, Copy)]
 pub enum Insertion<'a> {
     /// A text, by its bytes in the effective encoding.

@@ -114,7 +114,7 @@ fn is_behind(p: Position, q: Position) -> bool
     q.line < p.line || (p.line == q.line && q.character < p.character)
 }
 
-/// The splice that puts bytes in the place of the code points `i..j`.
+/// The splice that replaces the bytes of the code points `i..j`.
 fn replace(
     alloc: Global,
     parts: Parts<'_, '_>,

@@ -36,7 +36,7 @@ abbrev pub SomethingRead : Ending → List ℕ → Type 0
 SomethingRead BrokenOff read = 0 < length read
 SomethingRead ending read = ⊤
 
--- Memory ran out behind a byte that was read, or where reading had ended.
+-- Memory ran out after a byte was read, or once reading had ended.
 pub record RanOut (first last : Reads) : Type 0 where
   pub ending : Ending
   pub so : ReadSo (SomethingRead ending) first last

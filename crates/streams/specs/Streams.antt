@@ -42,7 +42,7 @@ before_error (p ∷ ps) = if is_error p.item then [] else p ∷ before_error ps
 abbrev pub front_encoded : Files → Conversion → List ℕ → Result (Put OutputState) EncodeFault
 front_encoded files job text = encoded_part files job.to (encode_mode job.mode) Ascii text false
 
--- This holds of all bytes that may follow: of any, or of none where the end was reached.
+-- This holds of all bytes that may follow: of any, or of none if the end was reached.
 abbrev pub Whatever : Bool → (List ℕ → Type 0) → Type 0
 Whatever true P = P []
 Whatever false P = (more : List ℕ) → P more
@@ -110,7 +110,7 @@ StopsBy (fault.Unencodable spot c) files job read at_end before after = LacksCod
 StopsBy fault.Write files job read at_end before after = BrokeOff files job read at_end before after
 StopsBy fault.OutOfMemory files job read at_end before after = BrokeOff files job read at_end before after
 
--- memory runs out only behind a byte that was read, or at the end
+-- memory runs out only after a byte was read, or at the end
 abbrev pub RunsOut : PartFault → Bool → List ℕ → Type 0
 RunsOut fault.OutOfMemory false read = 0 < length read
 RunsOut why at_end read = ⊤

@@ -37,7 +37,7 @@ impl Desk<'_> {
         })
     }
 
-    /// Those of these encodings of which all files are loaded.
+    /// The encodings among these that have all their files loaded.
     fn loaded_among(&self, encodings: &[Encoding]) -> Result<Vec<Encoding>, AllocError>
         ensures { IfOk result (λ loaded. loaded.items ≡ filter (has_files self.now.indexes) encodings.now) }
     {

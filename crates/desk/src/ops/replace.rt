@@ -16,7 +16,7 @@ use piece_rope::Doc;
 use position_map::{Insertion, Plan, Range, Unit};
 use std::alloc::Global;
 
-/// Puts given bytes in the place of a range of a document's text, if they stand for a text there.
+/// Replaces a range of a document's text by given bytes, if they decode to a given text there.
 #[derive(Clone, Copy)]
 pub struct Replace<'a> {
     /// The document's name.
@@ -34,8 +34,7 @@ pub struct Replace<'a> {
 }
 
 impl Desk<'_> {
-    /// Puts given bytes in the place of a range of the document's text, and without a range in place
-    /// of all of it.
+    /// Replaces a range of the document's text by given bytes, and without a range all of it.
     pub(crate) fn replace(&mut self, replace: &Replace<'_>) -> Result<Reply, Fault>
         ensures { Decides self.old (asked (commands.Replace replace.now)) (reply_of result) self.new }
     {

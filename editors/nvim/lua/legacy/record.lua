@@ -186,9 +186,9 @@ end
 ---Seconds between two looks for whether a server still runs.
 M.PAUSE = 5
 
----What a shell does that takes these seconds, a server's number, its socket, its record, the list of editors and the words that
----compact the record: once the server has left its place in order, makes the record short, and removes it if no document of a file
----is open in it. (A program that takes the record meanwhile has it locked, and is left alone.)
+---A shell's script. Its arguments are seconds, a server's number, its socket, its record, the list of editors, and the command that
+---compacts the record. Once the server has ended in order, it compacts the record, and removes it if no document of a file is open
+---in it. (A program that takes the record in between has it locked, and keeps it.)
 local TIDY = [[
 pause=$1 server=$2 socket=$3 record=$4 list=$5; shift 5
 while kill -0 "$server" 2>/dev/null; do sleep "$pause"; done
