@@ -56,7 +56,7 @@ needed-at-home kind (e ∷ es) is =
 other-place : (files : Files) (pairs : Pairs) (a b : Option ℕ) → ((slot : ℕ) → a ≡ Some slot → b ≡ Some slot → ⊥)
     → option_and_then (λ slot. slice_index_or files.slots slot None) b ≡ None
     → option_and_then (λ slot. slice_index_or
-        (option_map_or (λ s. record { slots = set files.slots s (Some pairs); exceptions = files.exceptions }) a files).slots slot None) b ≡ None
+    (option_map_or (λ s. record { slots = set files.slots s (Some pairs); exceptions = files.exceptions }) a files).slots slot None) b ≡ None
 other-place files pairs a None apart was = refl
 other-place files pairs None (Some t) apart was = was
 other-place files pairs (Some s) (Some t) apart was = get_or-set_other files.slots s t (Some pairs) None (λ is. apart t (ap Some (sym is)) refl) ∙ was
@@ -124,11 +124,21 @@ named-fault : (files : List (IndexKind × Bor (List ℕ))) (at : ℕ) (kind : In
     → slice_get (map (λ file. (file.0, file.1.now)) files) at ≡ Some (entry kind name.now) → Names name.now fault
     → IsIndexFault (map (λ file. (file.0, file.1.now)) files) encodings fault
 named-fault files at kind name encodings (CannotRead file) is there same =
-    record { kind = kind; is = is; at = at; named =
-        subst (λ (x : List ℕ). slice_get (map (λ f. (f.0, f.1.now)) files) at ≡ Some (entry kind x)) (sym same) there }
+    record {
+      kind = kind;
+      is = is;
+      at = at;
+      named =
+          subst (λ (x : List ℕ). slice_get (map (λ f. (f.0, f.1.now)) files) at ≡ Some (entry kind x)) (sym same) there;
+    }
 named-fault files at kind name encodings (Index fault) is there same =
-    record { kind = kind; is = is; at = at; named =
-        subst (λ (x : List ℕ). slice_get (map (λ f. (f.0, f.1.now)) files) at ≡ Some (entry kind x)) (sym same) there }
+    record {
+      kind = kind;
+      is = is;
+      at = at;
+      named =
+          subst (λ (x : List ℕ). slice_get (map (λ f. (f.0, f.1.now)) files) at ≡ Some (entry kind x)) (sym same) there;
+    }
 named-fault files at kind name encodings OutOfMemory is there same = tt
 
 at-place : (files : List (IndexKind × Bor (List ℕ))) (at : ℕ) (d : IndexKind × Bor (List ℕ)) → at < length files

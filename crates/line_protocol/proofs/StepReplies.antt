@@ -37,7 +37,8 @@ refused_step o r text e = taken (ap (λ x. let s : LineStep = record { text = x;
 
 -- the desk answered a request, and its reply was written
 pub parsed_step : (old new : Office) (d : Data) (id : ℕ) (command : Command) (reply : Reply) (text : List ℕ)
-    → IsRequest d (Ok (id, Document command)) → text ≡ reply_text id reply → Answers old (asked command) reply new → IsStep old (step_by old (request_of d)) text new
+    → IsRequest d (Ok (id, Document command)) → text ≡ reply_text id reply → Answers old (asked command) reply new
+    → IsStep old (step_by old (request_of d)) text new
 parsed_step old new d id command reply text is e a =
     subst (λ r. IsStep old (step_by old r) text new) is (desk_step old new id (asked command) reply text e a)
 

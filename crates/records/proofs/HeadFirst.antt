@@ -106,7 +106,7 @@ obeys_once (Some (Adoption name setting rev)) h k m p q =
     let entry : p.0.step.0 ≡ q.0.step.0 = let is = sym p.0.step.1 ∙ q.0.step.1 in cc in
     let documents : k.office.documents ≡ m.office.documents = rw (p.0.step.2, entry) (sym q.0.step.2) in
     heading_is k m
-        (office_is k.office m.office documents (p.0.indexes ∙ sym q.0.indexes) (p.0.labels ∙ sym q.0.labels) (p.0.turn ∙ sym q.0.turn)) (p.1 ∙ sym q.1)
+    (office_is k.office m.office documents (p.0.indexes ∙ sym q.0.indexes) (p.0.labels ∙ sym q.0.labels) (p.0.turn ∙ sym q.0.turn)) (p.1 ∙ sym q.1)
 
 pub all_once : (lines : List (List ℕ)) (h k m : Heading) → ObeysAll h lines k → ObeysAll h lines m → k ≡ m
 all_once [] h k m p q = p ∙ sym q
