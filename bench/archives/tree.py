@@ -24,12 +24,14 @@ import socket
 import sys
 from typing import Any, Dict, Iterator, List, NamedTuple, Optional, Set, Tuple
 
-# The most bytes that `gate` takes, and a few more.
-TOO_LARGE = 16_777_216 + 1
+# One byte more than a document of `gate` may have, and where a damaged one is in it.
+LONG = 16_777_216 + 1
+MIDDLE = LONG // 2
 # The files of one folder, at most.
 FOLDER = 250
-# The line ends of a file of one line, and what the system says of a file that may not be read.
+# The line ends of a file of one line, and of one without any, and what the system says of a file that may not be read.
 ONE_LF = {"lf": 1, "crlf": 0, "cr": 0}
+NO_ENDS = {"lf": 0, "crlf": 0, "cr": 0}
 DENIED = os.strerror(errno.EACCES)
 
 Places = List[Tuple[int, int]]
@@ -177,7 +179,7 @@ def files(top: pathlib.Path, count: int, largest: int, seed: int, indexes: Optio
 
 
 def others(top: pathlib.Path) -> Iterator[Dict[str, Any]]:
-    """Makes what can't be looked at, and a file of another encoding than its name says; returns the row of each."""
+    """Makes what can't be looked at, a long file, and one of another encoding than its name says; returns the row of each."""
     folder = top / "tree" / "others"
     folder.mkdir(parents=True)
     marked = folder / "marked.shift_jis"
@@ -185,8 +187,10 @@ def others(top: pathlib.Path) -> Iterator[Dict[str, Any]]:
     yield row(top, marked, "shift_jis", 10, ends=ONE_LF, mark=3)
     large = folder / "large.utf-8"
     with large.open("wb") as file:
-        file.truncate(TOO_LARGE)
-    yield row(top, large, "utf-8", TOO_LARGE, why="the most")
+        file.seek(MIDDLE)
+        file.write(b"\xfe")
+        file.truncate(LONG)
+    yield row(top, large, "utf-8", LONG, errors=[(MIDDLE, MIDDLE + 1)], ends=NO_ENDS, mark=0)
     yield from make_closed(top, folder)
     os.mkfifo(folder / "fifo.utf-8")
     yield row(top, folder / "fifo.utf-8", "", 0, why="a FIFO")

@@ -96,7 +96,7 @@ class OrdinaryUser(unittest.TestCase):
         self.assertEqual(said[1:], ("", 0))
         printed, said, status = self.run_as_user(bench / "verify.py", "--gate", PROGRAM, "--indexes", INDEXES, self.folder)
         self.assertEqual((said, status), ("", 0), printed)
-        self.assertIn(", 8 that can't be looked at, of which 3 may not be)", printed)
+        self.assertIn(", 7 that can't be looked at, of which 3 may not be)", printed)
 
 
 if __name__ == "__main__":
