@@ -24,9 +24,8 @@ import socket
 import sys
 from typing import Any, Dict, Iterator, List, NamedTuple, Optional, Set, Tuple
 
-# One byte more than a document of `gate` may have, and where a damaged one is in it.
+# One byte more than a document of `gate` may have.
 LONG = 16_777_216 + 1
-MIDDLE = LONG // 2
 # The files of one folder, at most.
 FOLDER = 250
 # The line ends of a file of one line, and of one without any, and what the system says of a file that may not be read.
@@ -187,10 +186,8 @@ def others(top: pathlib.Path) -> Iterator[Dict[str, Any]]:
     yield row(top, marked, "shift_jis", 10, ends=ONE_LF, mark=3)
     large = folder / "large.utf-8"
     with large.open("wb") as file:
-        file.seek(MIDDLE)
-        file.write(b"\xfe")
         file.truncate(LONG)
-    yield row(top, large, "utf-8", LONG, errors=[(MIDDLE, MIDDLE + 1)], ends=NO_ENDS, mark=0)
+    yield row(top, large, "utf-8", LONG, ends=NO_ENDS, mark=0)
     yield from make_closed(top, folder)
     os.mkfifo(folder / "fifo.utf-8")
     yield row(top, folder / "fifo.utf-8", "", 0, why="a FIFO")
