@@ -4,7 +4,8 @@
 ghost use Rattle.std.specs.Prelude.{◌≡◌, ◌++◌, ◌∷◌, [], false, codes, Some, None};
 ghost use Rattle.enc_names.specs.declared.encoding.Encoding.TheVariants.{Iso2022Jp, Utf8};
 ghost use Rattle.enc_names.specs.{declared.bom.Bom.TheVariants.Keep, declared.bom.Bom.TheVariants.Sniff, Settings.setting_of};
-ghost use Rattle.desk.specs.{Documents.entry, declared.overview.OverviewReply.TheVariants as overviews};
+ghost use Rattle.desk.specs.Documents.{entry};
+ghost use Rattle.desk.specs.declared.overview.OverviewReply.TheVariants as overviews;
 ghost use Rattle.line_protocol.specs.{Ops.overview_data, Ops.reply_text, Replies.line_of, Replies.refusal_text};
 ghost use Rattle.desk.specs.declared.change_cause.ChangeCause.TheVariants.{Plan};
 ghost use Rattle.desk.specs.declared.fault.Fault.TheVariants as fault;
