@@ -29,7 +29,7 @@ from sessions import LIMIT, b64, document, line_starts, open_session
 
 HERE = pathlib.Path(__file__).resolve().parent
 sys.path.insert(0, str(HERE.parent / "clients"))
-from gate import Gate  # noqa: E402
+from gate import Ends, Gate  # noqa: E402
 
 # The document of a single client, and the one that is asked for as a whole.
 SIZE, WHOLE = 65_536, 100_000
@@ -170,7 +170,8 @@ def splices_in_python(connect: Connecting) -> float:
     places = line_starts("utf-8", document("utf-8", SIZE))
     took = []
     with connect() as talk:
-        client = Gate(talk.reading, talk.writing, functools.partial(os.write, talk.writing), lambda: None, lambda: None)
+        nothing = lambda: None  # noqa: E731
+        client = Gate(Ends(talk.reading, talk.writing, functools.partial(os.write, talk.writing), nothing, nothing, nothing))
         edited = client.open("d", "utf-8", document("utf-8", SIZE))
         for number in range(ALONE // 4):
             at = places[number * 7 % len(places)]
