@@ -6,8 +6,8 @@ docs/SPEED.md.
 
 Each text is the ordinary one of crates/oracle in one encoding, repeated to the size. All programs convert the same file to UTF-8, and its text back,
 to /dev/null, in turn. A figure is the MB of source that one processor converts in a second, with the start of the process. It is the
-best of several runs. Below the table are the most memory of `gate`, its time for an empty stream, and the time from the first bytes
-of a pipe to the first byte of output. Without --peer, encoding_rs is the program of bench/peer; it has no encoder for UTF-16."""
+best of several runs. Below the table are the most memory of `gate` and its time for an empty stream. The last figure is the time
+from the first bytes of a pipe to the first byte of output. Without --peer, encoding_rs is the program of bench/peer; it has no encoder for UTF-16."""
 import argparse
 import ast
 import os

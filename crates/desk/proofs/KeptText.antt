@@ -49,7 +49,7 @@ module _ {A : Type 0} (indexes : Files) (rev : ℕ) (apply : Document → Result
   decided-by None = λ is. cc
   decided-by (Some h) = decided-put h _ refl
 
--- an edit that puts bytes in the place of a range
+-- an edit that replaces a range by bytes
 module _ (o p : Office) (doc : List ℕ) (rev : ℕ) (unit : TextUnit) (range : Option Range) (text : List ℕ) where
   abbrev substitution : Inserted → Effect
   substitution new =
